@@ -1,0 +1,3 @@
+pub mod Amounts
+pub mod Rows
+pub mod Reach
