@@ -1,0 +1,4 @@
+pub mod Meaning
+pub mod Asking
+pub mod Listing
+pub mod FaultText
