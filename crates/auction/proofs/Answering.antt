@@ -13,7 +13,6 @@ use Rattle.std.specs.declared.result.Result.{Result}
 use Rattle.std.specs.declared.result.Result.the-variants.{Ok, Err}
 use Rattle.order.specs.declared.Order.{Order}
 use Rattle.price_rows.specs.declared.PriceRow.{PriceRow}
-use Rattle.auction.specs.declared.AuctionPrice.{AuctionPrice}
 use Rattle.price_rows.specs.declared.AuctionError.{AuctionError}
 use Rattle.price_rows.specs.declared.AuctionError.the-variants.{TooManyOrders}
 use Rattle.auction.specs.declared.Decision.{Decision}

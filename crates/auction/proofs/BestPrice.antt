@@ -1,8 +1,7 @@
 -- The auction price is the best, by any distance of the third rule. Assumes nothing.
-use mathlib.Core.Path.{_≡_, refl, sym, ap, _∙_, subst}
-use mathlib.Core.Bool.{Bool, true, false}
-use mathlib.Core.List.{List, [], _∷_}
-use mathlib.Core.Logic.{_⊎_, inl, inr}
+use mathlib.Core.Path.{_≡_, sym, ap, subst}
+use mathlib.Core.List.{List}
+use mathlib.Core.Logic.{inl}
 use Prim.Native.Nat.{ℕ, _≤_}
 use native.Mathlib.Omega.{arith}
 use Rattle.std.specs.Options.{mapped}
@@ -10,15 +9,14 @@ use Rattle.std.specs.shelf.Lists.{Has}
 use Rattle.std.proofs.shelf.Tests.{true≢false}
 use Rattle.std.specs.declared.option.Option.{Option}
 use Rattle.std.specs.declared.option.Option.the-variants.{Some, None}
-use Rattle.rank.specs.Ranked.{first-of, None-counts, Leads, Is-first}
+use Rattle.rank.specs.Ranked.{first-of, Is-first}
 use Rattle.rank.proofs.Firsts.{first-leads}
-use Rattle.order.specs.declared.Side.the-variants.{Buy, Sell}
 use Rattle.order.specs.declared.Order.{Order}
 use Rattle.price_rows.specs.declared.PriceRow.{PriceRow}
 use Rattle.price_rows.specs.Amounts.{row-at, matched-in, surplus-in, candidates}
 use Rattle.price_rows.specs.Rows.{rows-of}
 use Rattle.auction.specs.Rules.{settled, row-ahead, row-key, struck-row, priced, auction-price}
-use Rattle.price_rows.specs.Reach.{matched, surplus, Names, Reaches, Spans}
+use Rattle.price_rows.specs.Reach.{surplus, Names, Reaches, Spans}
 use Rattle.auction.specs.Laws.{Best, Best-price}
 use Rattle.price_rows.proofs.Members.{map-has, has-map}
 use Rattle.auction.proofs.Chosen.{any-row, Tops, leads-tops, chosen-none, chosen-some}

@@ -1,7 +1,7 @@
 -- What the code finds by price rank is the decision of the three rules. Assumes nothing.
-use mathlib.Core.Path.{_≡_, refl, sym, ap, ap₂, _∙_, subst}
-use mathlib.Core.Bool.{Bool, true, false, cond}
-use mathlib.Core.List.{List, [], _∷_}
+use mathlib.Core.Path.{_≡_, sym, ap, ap₂, _∙_, subst}
+use mathlib.Core.Bool.{cond}
+use mathlib.Core.List.{List}
 use Prim.Native.Nat.{ℕ}
 use Rattle.std.specs.Options.{mapped}
 use Rattle.std.specs.shelf.Lists.{Has}
@@ -15,7 +15,7 @@ use Rattle.auction.specs.declared.ThirdRule.{ThirdRule}
 use Rattle.auction.specs.declared.ThirdRule.the-variants.{DemandExceeds, SupplyExceeds}
 use Rattle.price_rows.specs.Amounts.{row-at, named-in-range, candidates}
 use Rattle.price_rows.specs.Rows.{rows-of, entry-rows}
-use Rattle.auction.specs.Rules.{exceeds, by-closing-price, third-at-ties, thousandths, row-ahead, left-by-two, settled, struck-row}
+use Rattle.auction.specs.Rules.{exceeds, by-closing-price, third-at-ties, thousandths, row-ahead, settled, struck-row}
 use Rattle.auction.specs.Decided.{by-case, decision}
 use Rattle.price_rows.proofs.Members.{map-has, has-map}
 use Rattle.price_rows.proofs.Rising.{rising-has, has-rising}

@@ -21,6 +21,7 @@ use Rattle.auction.specs.Rules.{thousandths, settled, struck-row, priced, auct
 abbrev pub by-case : ThirdRule → PriceRow → Decision
 by-case third row = record { row = row; third = third }
 
+-- the decision on these orders; none where there is no candidate
 abbrev pub decision : Option ℕ → List Order → Option Decision
 decision close orders = mapped (by-case (settled close orders)) (struck-row thousandths close orders)
 
@@ -32,9 +33,9 @@ priced-by decided = mapped (λ d. priced (d .row)) decided
 abbrev pub for-few : {X : Type 0} → List Order → X → Result X AuctionError
 for-few orders x = cond (leb (length orders) 512) (Ok x) (Err TooManyOrders)
 
+-- the decision, and the auction price by the distance in thousandths, as they are answered
 abbrev pub decision-answer : Option ℕ → List Order → Result (Option Decision) AuctionError
 decision-answer close orders = for-few orders (decision close orders)
 
--- the auction price, by the distance in thousandths
 abbrev pub price-answer : Option ℕ → List Order → Result (Option AuctionPrice) AuctionError
 price-answer close orders = for-few orders (auction-price thousandths close orders)

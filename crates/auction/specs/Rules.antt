@@ -1,5 +1,5 @@
 -- The three rules of the auction price. Assumes nothing.
-use mathlib.Core.Bool.{Bool, true, false, cond, not, _&&_, _||_}
+use mathlib.Core.Bool.{Bool, true, cond, not, _&&_, _||_}
 use mathlib.Core.List.{List, [], _∷_}
 use Prim.Native.Nat.{ℕ, _+_, _-_}
 use lib.Dec.{ltb, eqb}
@@ -17,6 +17,7 @@ use Rattle.auction.specs.declared.AuctionPrice.{AuctionPrice}
 use Rattle.price_rows.specs.Amounts.{matched-in, surplus-in}
 use Rattle.price_rows.specs.Rows.{rows-of}
 
+-- the test holds of all of the list
 abbrev pub every : {X : Type 0} → (X → Bool) → List X → Bool
 every test [] = true
 every test (x ∷ xs) = test x && every test xs
@@ -25,6 +26,7 @@ every test (x ∷ xs) = test x && every test xs
 abbrev pub unbeaten : {X : Type 0} → (X → X → Bool) → List X → List X
 unbeaten beats xs = kept-by (λ x. every (λ y. not (beats y x)) xs) xs
 
+-- the first of what is left
 abbrev pub first-left : {X : Type 0} → List X → Option X
 first-left [] = None
 first-left (x ∷ xs) = Some x
@@ -42,12 +44,13 @@ abbrev pub exceeds : Side → PriceRow → Bool
 exceeds Buy row = ltb (row .supply) (row .demand)
 exceeds Sell row = ltb (row .demand) (row .supply)
 
--- the third rule's case, settled over the rows that the first two leave: whether demand exceeds supply at each,
--- supply exceeds demand at each, or neither
+-- the third rule's case where neither side exceeds the other at each price
 abbrev pub by-closing-price : Option ℕ → ThirdRule
 by-closing-price (Some close) = ClosestTo close
 by-closing-price None = NoClosingPrice
 
+-- the third rule's case, settled over the rows that the first two leave: demand exceeds supply at each, supply exceeds
+-- demand at each, or neither
 abbrev pub third-rule : Option ℕ → List PriceRow → ThirdRule
 third-rule close rows =
     cond (every (exceeds Buy) rows) DemandExceeds (cond (every (exceeds Sell) rows) SupplyExceeds (by-closing-price close))
@@ -64,6 +67,7 @@ left-by-two rows = unbeaten leaves-less (unbeaten matches-more rows)
 abbrev pub settled : Option ℕ → List Order → ThirdRule
 settled close orders = third-rule close (left-by-two (rows-of orders))
 
+-- a row's price with the shares that it matches
 abbrev pub priced : PriceRow → AuctionPrice
 priced row = record { price = row .price; matched = matched-in row }
 

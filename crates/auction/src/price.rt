@@ -2,8 +2,6 @@
 ghost use mathlib.Core.Bool.{true};
 ghost use mathlib.Core.List.{List};
 ghost use mathlib.Core.Path.{_≡_};
-ghost use Prim.Native.Nat.{_≤_};
-ghost use lib.ListN.{length};
 ghost use Rattle.auction.specs.Rules.{every, exceeds, ties, at-ties, by-closing-price, third-at-ties, thousandths, preferred, row-ahead, row-key};
 ghost use Rattle.price_rows.specs.Rows.{entry-rows};
 ghost use Rattle.auction.specs.Decided.{decision, priced-by, decision-answer, price-answer};

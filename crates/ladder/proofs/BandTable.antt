@@ -1,13 +1,10 @@
 -- The banded ladder's table passes the test, so what holds of sound tables holds of it.
-use mathlib.Core.Path.{_≡_, refl}
-use mathlib.Core.Bool.{true}
-use mathlib.Core.List.{_∷_}
+use mathlib.Core.Path.{_≡_}
 use Prim.Native.Nat.{ℕ, _<_, _≤_, min, max}
-use lib.Dec.{lit≤}
 use Rattle.std.specs.declared.option.Option.the-variants.{Some, None}
 use Rattle.ladder.specs.Bands.{first-band, higher-bands, last-price, banded-prices}
 use Rattle.ladder.specs.Steps.{band-holding, rounded-down, rounded-up}
-use Rattle.ladder.specs.Prices.{Lawful, highest-at-or-below, lowest-at-or-above}
+use Rattle.ladder.specs.Prices.{highest-at-or-below, lowest-at-or-above}
 use Rattle.ladder.specs.Sound.{banded-sound}
 use Rattle.ladder.proofs.Tables.{Holds, table-holds, table-down-none, table-down-at, table-up-none, table-up-at}
 

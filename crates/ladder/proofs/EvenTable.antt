@@ -1,15 +1,12 @@
 -- The even ladder as a table of one band.
-use mathlib.Core.Path.{_≡_, sym, ap, _∙_, subst}
+use mathlib.Core.Path.{_≡_, ap, _∙_}
 use mathlib.Core.Bool.{true}
-use mathlib.Core.List.{List, [], _∷_, _++_}
-use Prim.Native.Nat.{ℕ, zero, suc, _+_, _-_, _*_, _/_, _%_, _<_, _≤_, min, max}
-use native.Mathlib.Nat.{mul-suc, mul-div-cancel-left, mul-mod-right, mul-le-mul}
-use native.Mathlib.Omega.{arith}
+use mathlib.Core.List.{[], _∷_}
+use Prim.Native.Nat.{ℕ, _-_, _*_, _<_, _≤_, min, max}
 use Rattle.std.specs.declared.option.Option.the-variants.{Some, None}
-use Rattle.std.proofs.shelf.Tests.{lt-ltb, le-leb, eq-eqb}
 use Rattle.ladder.specs.Bands.{band, prices-of}
 use Rattle.ladder.specs.Steps.{rounded-down, rounded-up}
-use Rattle.ladder.specs.Prices.{Lawful, prices-from, even-prices, highest-at-or-below, lowest-at-or-above}
+use Rattle.ladder.specs.Prices.{even-prices, highest-at-or-below, lowest-at-or-above}
 use Rattle.ladder.specs.Sound.{sound, even-table, even-sound}
 use Rattle.ladder.proofs.Tables.{table-down-none, table-down-at, table-up-none, table-up-at}
 

@@ -1,5 +1,5 @@
 -- Rounding within one run of prices a step apart.
-use mathlib.Core.Path.{_≡_, refl, sym, ap, _∙_}
+use mathlib.Core.Path.{_≡_, sym, ap, _∙_}
 use mathlib.Core.Bool.{cond}
 use mathlib.Core.List.{List, [], _∷_, _++_}
 use mathlib.Core.Logic.{inl, inr}
@@ -13,7 +13,7 @@ use Rattle.std.proofs.shelf.Elements.{all-weaker}
 use Rattle.std.proofs.shelf.Tests.{le-leb, lt-leb, cases-lt, eq-eqb, ne-eqb}
 use Rattle.ladder.specs.Bands.{band}
 use Rattle.ladder.specs.Steps.{rounded-down, rounded-up}
-use Rattle.ladder.specs.Prices.{Rising, prices-from, highest-at-or-below, lowest-at-or-above}
+use Rattle.ladder.specs.Prices.{prices-from, highest-at-or-below, lowest-at-or-above}
 use Rattle.ladder.specs.Sound.{run-above, run-starts}
 use Rattle.ladder.proofs.Rounding.{none-at-or-below}
 

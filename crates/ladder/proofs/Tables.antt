@@ -1,25 +1,23 @@
 -- Rounding over the prices of any sound table of bands.
 use mathlib.Core.Path.{_≡_, refl, sym, ap, _∙_, subst}
-use mathlib.Core.Bool.{Bool, true, _&&_}
+use mathlib.Core.Bool.{true}
 use mathlib.Core.List.{List, [], _∷_, _++_}
 use mathlib.Core.Logic.{inl, inr}
-use Prim.Native.Nat.{ℕ, zero, suc, _+_, _-_, _*_, _/_, _%_, _<_, _≤_, min, max}
-use native.Mathlib.Nat.{div-add-mod}
+use Prim.Native.Nat.{ℕ, _+_, _-_, _*_, _%_, _<_, _≤_, min, max}
 use native.Mathlib.Omega.{arith}
-use lib.Dec.{eqb, leb, ltb}
 use lib.ListN.{length, getD, drop}
 use Rattle.std.specs.shelf.Lists.{All}
 use Rattle.std.specs.declared.option.Option.{Option}
 use Rattle.std.specs.declared.option.Option.the-variants.{Some, None}
-use Rattle.std.proofs.shelf.Elements.{all-weaker, all-append}
+use Rattle.std.proofs.shelf.Elements.{all-weaker}
 use Rattle.std.proofs.shelf.Lists.{at-drop-more}
-use Rattle.std.proofs.shelf.Tests.{le-leb, lt-leb, cases-lt, ltb-true, leb-true, eqb-true, and-parts}
+use Rattle.std.proofs.shelf.Tests.{le-leb, lt-leb, cases-lt}
 use Rattle.ladder.specs.Bands.{end-before, prices-of}
 use Rattle.ladder.specs.Steps.{band-holding, rounded-down, rounded-up}
-use Rattle.ladder.specs.Prices.{Rising, Lawful, price-limit, prices-from, or-else, highest-at-or-below, lowest-at-or-above}
-use Rattle.ladder.specs.declared.band.Band.{Band}
+use Rattle.ladder.specs.Prices.{or-else, highest-at-or-below, lowest-at-or-above}
+use Rattle.ladder.specs.declared.Band.{Band}
 use Rattle.ladder.proofs.Rounding.{highest-append, lowest-append, none-at-or-below, none-at-or-above, same-past-top}
-use Rattle.ladder.specs.Sound.{run-above, run-below, run-starts, sound, count, run, First, first, table-above, table-below, band-below, table-starts, start-low}
+use Rattle.ladder.specs.Sound.{sound, count, run, First, first, table-above, table-below, band-below, table-starts, start-low}
 use Rattle.ladder.proofs.Runs.{run-down, run-up}
 
 -- a band that starts above n is passed over

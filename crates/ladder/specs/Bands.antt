@@ -2,7 +2,7 @@
 use mathlib.Core.List.{List, [], _∷_, _++_}
 use Prim.Native.Nat.{ℕ, _-_, _/_}
 use Rattle.ladder.specs.Prices.{prices-from}
-use Rattle.ladder.specs.declared.band.Band.{Band}
+use Rattle.ladder.specs.declared.Band.{Band}
 
 -- a band by its start and its step
 abbrev pub band : ℕ → ℕ → Band

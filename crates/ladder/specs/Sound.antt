@@ -3,7 +3,6 @@
 use mathlib.Core.Path.{_≡_, refl, sym, ap, _∙_, subst}
 use mathlib.Core.Bool.{Bool, true, _&&_}
 use mathlib.Core.List.{List, [], _∷_, _++_}
-use mathlib.Core.Logic.{inl, inr}
 use Prim.Native.Nat.{ℕ, zero, suc, _+_, _-_, _*_, _/_, _%_, _<_, _≤_}
 use native.Mathlib.Nat.{div-add-mod, mul-suc, mul-div-cancel-left, mul-mod-right, mul-le-mul}
 use native.Mathlib.Omega.{arith}
@@ -14,7 +13,7 @@ use Rattle.std.proofs.shelf.Elements.{all-weaker, all-append}
 use Rattle.std.proofs.shelf.Tests.{le-leb, lt-ltb, ltb-true, leb-true, eqb-true, eq-eqb, and-parts}
 use Rattle.ladder.specs.Bands.{band, end-before, prices-of, first-band, higher-bands, last-price, banded-prices}
 use Rattle.ladder.specs.Prices.{Rising, Lawful, price-limit, prices-from, even-prices}
-use Rattle.ladder.specs.declared.band.Band.{Band}
+use Rattle.ladder.specs.declared.Band.{Band}
 
 -- a run's prices are at or above its start
 pub run-above : (a d k : ℕ) → All (λ q. a ≤ q) (prices-from a d k)

@@ -3,7 +3,7 @@ use mathlib.Core.Bool.{cond}
 use mathlib.Core.List.{List, [], _∷_}
 use Prim.Native.Nat.{ℕ, _+_, _-_, _%_}
 use lib.Dec.{eqb, leb}
-use Rattle.ladder.specs.declared.band.Band.{Band}
+use Rattle.ladder.specs.declared.Band.{Band}
 
 -- the last band of the table that starts at or below n, or `found` where none does
 abbrev pub band-holding : Band → List Band → ℕ → Band

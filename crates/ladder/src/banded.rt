@@ -2,8 +2,8 @@ ghost use mathlib.Core.Path.{_≡_};
 ghost use Rattle.ladder.specs.Bands.{first-band, higher-bands, banded-prices};
 ghost use Rattle.ladder.specs.Steps.{band-holding};
 ghost use Rattle.ladder.specs.Sound.{banded-lawful};
+use crate::Band;
 use crate::Ladder;
-use crate::band::Band;
 use crate::is_answer;
 
 const BANDS: [Band; 11] = [

@@ -3,8 +3,8 @@ ghost use Prim.Native.Nat.{_*_, _≤_};
 ghost use Rattle.ladder.specs.Bands.{band};
 ghost use Rattle.ladder.specs.Prices.{even-prices, clamped};
 ghost use Rattle.ladder.specs.Sound.{even-lawful};
+use crate::Band;
 use crate::Ladder;
-use crate::band::Band;
 use crate::is_answer;
 
 // The largest step and the largest count of an even ladder.

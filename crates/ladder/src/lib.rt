@@ -1,11 +1,11 @@
 // Price ladders: which prices are legal, and the legal prices nearest to a number. Prices are whole thousandths of a dollar.
 ghost use mathlib.Core.List.{List};
 ghost use mathlib.Core.Path.{_≡_};
-ghost use Prim.Native.Nat.{ℕ};
+ghost use Prim.Native.Nat.{ℕ, _+_, _<_, _≤_, _^_};
 ghost use Rattle.ladder.specs.Nearest.{NearestBelow, NearestAbove};
 ghost use Rattle.ladder.specs.Prices.{Lawful, legal, highest-at-or-below, lowest-at-or-above};
+ghost use Rattle.ladder.specs.Steps.{remainder, rounded-down, rounded-up};
 
-mod band;
 mod banded;
 mod even;
 
@@ -35,6 +35,40 @@ pub trait Ladder {
         ensures { λ r. ⌜ r ≡ legal price (prices (now (self .entry))) ⌝ };
 }
 
+// Prices one step apart, from a start on.
+#[derive(Clone, Copy)]
+struct Band {
+    start: u32,
+    step: u32,
+}
+
+impl Band {
+    // What rounding `n` down takes off.
+    fn remainder(self, n: u32) -> u32
+        requires { ⌜ self .start ≤ n ⌝ ∗ ⌜ 0 < self .step ⌝ }
+        ensures { λ r. ⌜ r ≡ remainder self n ⌝ }
+    {
+        (n - self.start) % self.step
+    }
+
+    // The band's price at or below `n`.
+    fn down(self, n: u32) -> u32
+        requires { ⌜ self .start ≤ n ⌝ ∗ ⌜ 0 < self .step ⌝ }
+        ensures { λ r. ⌜ r ≡ rounded-down self n ⌝ }
+    {
+        n - self.remainder(n)
+    }
+
+    // The band's price at or above `n`.
+    fn up(self, n: u32) -> u32
+        requires { ⌜ self .start ≤ n ⌝ ∗ ⌜ 0 < self .step ⌝ ∗ ⌜ n + self .step < 2 ^ 32 ⌝ }
+        ensures { λ r. ⌜ r ≡ rounded-up self n ⌝ }
+    {
+        let over = self.remainder(n);
+        if over == 0 { n } else { n - over + self.step }
+    }
+}
+
 // Whether a price is the answer of rounding itself down.
 fn is_answer(price: u32, rounded: Option<u32>) -> bool
     ensures { λ r. ⌜ ((prices : List ℕ) → Lawful prices → rounded ≡ highest-at-or-below price prices → r ≡ legal price prices) ⌝ }
@@ -50,50 +84,4 @@ pub fn nearest<L: Ladder>(ladder: &L, n: u32) -> (Option<u32>, Option<u32>)
     ensures above { λ r. ⌜ NearestAbove n (prices (now (ladder .entry))) (r .1) ⌝ }
 {
     (ladder.round_down(n), ladder.round_up(n))
-}
-
-#[cfg(test)]
-mod tests {
-    use super::*;
-    use std::test::*;
-
-    // A number, and the legal prices nearest to it.
-    type Case = (u32, Option<u32>, Option<u32>);
-
-    fn rounds<L: Ladder>(ladder: &L, cases: &[Case]) -> Result<(), Fail> {
-        for (n, lower, upper) in cases {
-            check_eq(ladder.round_down(*n), *lower)?;
-            check_eq(ladder.round_up(*n), *upper)?;
-        }
-        Ok(())
-    }
-
-    #[test]
-    fn nearest_prices() -> Result<(), Fail> {
-        let banded = [
-            (9, None, Some(10)),
-            (252, Some(250), Some(255)),
-            (499, Some(495), Some(500)),
-            (8_490, Some(8_490), Some(8_490)),
-            (9_999, Some(9_990), Some(10_000)),
-            (10_001, Some(10_000), Some(10_020)),
-            (9_995_000, Some(9_995_000), Some(9_995_000)),
-            (9_995_001, Some(9_995_000), None),
-        ];
-        rounds(&BandedLadder, &banded)?;
-        rounds(
-            &EvenLadder::new(0, 5),
-            &[(0, None, Some(1)), (6, Some(5), None)],
-        )?;
-        rounds(
-            &EvenLadder::new(20_000, 0),
-            &[(9_999, None, Some(10_000)), (10_001, Some(10_000), None)],
-        )?;
-        rounds(
-            &EvenLadder::new(3, 5_000),
-            &[(4, Some(3), Some(6)), (3_001, Some(3_000), None)],
-        )?;
-        check(BandedLadder.is_legal(11_520))?;
-        check(!BandedLadder.is_legal(11_530))
-    }
 }

@@ -7,24 +7,20 @@ use price_report::report;
 use std::error::AnyError;
 use std::io::Read;
 
-fn run(rt: &LibcRuntime) -> Result<(), AnyError> {
+fn main(rt: LibcRuntime) -> Result<(), AnyError> {
     let heap = rt.alloc();
     let mut text = Vec::new(heap);
-    rt.stdin().read_to_end(&mut text)?;
+    rt.report(rt.stdin().read_to_end(&mut text))?;
     match report(heap, &BandedLadder, text.as_slice()) {
         Ok(table) => {
-            rt.print(table.as_str())?;
+            rt.report(rt.print(table.as_str()))?;
             Ok(())
         }
         Err(ReadError::Bad(line)) => {
             let message = bad_line_text(heap, &line)?;
             rt.eprint(message.as_str())?;
-            Err("a line is refused, and nothing was computed".into())
+            Err("a line is refused".into())
         }
-        Err(ReadError::NoMemory) => Err("there is not enough memory".into()),
+        Err(ReadError::NoMemory) => rt.report(Err("there is not enough memory".into())),
     }
-}
-
-fn main(rt: LibcRuntime) -> Result<(), AnyError> {
-    rt.report(run(&rt))
 }

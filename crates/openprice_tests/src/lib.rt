@@ -1,3 +1,5 @@
-// What is read from texts, and the reports that are written, by example.
+// Ladders, texts that are read or refused, and reports that are written, by example.
 #[cfg(test)]
 mod examples;
+#[cfg(test)]
+mod ladders;

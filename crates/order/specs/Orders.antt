@@ -4,23 +4,19 @@ use mathlib.Core.List.{List, [], _∷_}
 use Prim.Native.Nat.{ℕ}
 use lib.Dec.{leb, ltb, eqb}
 use Rattle.std.specs.declared.option.Option.{Option}
-use Rattle.std.specs.declared.option.Option.the-variants.{Some, None}
+use Rattle.rank.specs.Ranked.{first-of, Is-first}
 use Rattle.order.specs.declared.Side.{Side}
 use Rattle.order.specs.declared.Side.the-variants.{Buy, Sell}
 use Rattle.order.specs.declared.Kind.{Kind}
 use Rattle.order.specs.declared.Kind.the-variants.{AtAuction, Limit}
 use Rattle.order.specs.declared.Order.{Order}
 
+-- whether two sides are one
 abbrev pub same-side : Side → Side → Bool
 same-side Buy Buy = true
 same-side Buy Sell = false
 same-side Sell Buy = false
 same-side Sell Sell = true
-
--- the price that a limit order names
-abbrev pub limit-of : Kind → Option ℕ
-limit-of AtAuction = None
-limit-of (Limit p) = Some p
 
 -- an order of this side that names `limit` trades at `price`: a buy no dearer, a sell no cheaper
 abbrev pub within-limit : Side → ℕ → ℕ → Bool
@@ -32,6 +28,7 @@ abbrev pub takes : Side → Kind → ℕ → Bool
 takes side AtAuction price = true
 takes side (Limit limit) price = within-limit side limit price
 
+-- the order would trade at the price
 abbrev pub accepts : Order → ℕ → Bool
 accepts o price = takes (o .side) (o .kind) price
 
@@ -58,3 +55,11 @@ kind-key (Limit p) number = 1 ∷ p ∷ number ∷ []
 
 abbrev pub order-key : Order → List ℕ
 order-key o = kind-key (o .kind) (o .number)
+
+-- the order of this side that is served first, in a list that may hold both sides
+abbrev pub first-ranked : Side → List Order → Option Order
+first-ranked side orders = first-of (λ o. same-side side (o .side)) (order-ahead side) orders
+
+-- what that order is: of the list and of the side, and no order of the side is ahead of it
+abbrev pub Served-first : Side → List Order → Option Order → Type 0
+Served-first side orders answer = Is-first (λ o. same-side side (o .side)) (order-ahead side) orders answer

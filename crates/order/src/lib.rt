@@ -1,7 +1,8 @@
 // Orders, and the order in which those of a side are served.
 ghost use mathlib.Core.Path.{_≡_};
-ghost use Rattle.order.specs.Orders.{same-side, limit-of, within-limit, takes, accepts, better-limit, served-before, order-ahead, order-key};
+ghost use Rattle.order.specs.Orders.{same-side, within-limit, accepts, better-limit, served-before, order-ahead, order-key, first-ranked, Served-first};
 use rank::Rank;
+use rank::first;
 
 #[derive(Clone, Copy, PartialEq, Eq, Debug)]
 pub enum Side {
@@ -69,18 +70,6 @@ impl Side {
     }
 }
 
-impl Kind {
-    // The price that a limit order names.
-    pub fn limit(self) -> Option<u32>
-        ensures { λ r. ⌜ r ≡ limit-of self ⌝ }
-    {
-        match self {
-            Kind::AtAuction => None,
-            Kind::Limit(price) => Some(price),
-        }
-    }
-}
-
 impl Order {
     // Whether the order trades at the price.
     pub fn accepts(&self, price: u32) -> bool
@@ -113,4 +102,12 @@ pub impl Rank<Order> for SideRank as SideRankRank {
     fn is_ahead(&self, a: &Order, b: &Order) -> bool {
         self.side.serves_first(a.kind, b.kind, a.number < b.number)
     }
+}
+
+// The order of this side that is served first, in a list that may hold both sides.
+pub fn first_ranked(side: Side, orders: &[Order]) -> Option<Order>
+    ensures value { λ r. ⌜ r ≡ first-ranked side (now (orders .entry)) ⌝ }
+    ensures served { λ r. ⌜ Served-first side (now (orders .entry)) r ⌝ }
+{
+    first(&SideRank { side }, orders)
 }

@@ -25,7 +25,7 @@ use Rattle.order_text.specs.Meaning.{and-then, as-shares, shares-in, nothing-a
 use Rattle.order_text.specs.Listing.{side-word, kind-word, order-words, order-line, close-words, close-text, Legal, Legal-kind, Good, All-good, Legal-close, Reads-back}
 use Rattle.order_text.specs.declared.reading.ReadError.{ReadError}
 use Rattle.order_text.specs.declared.reading.Request.{Request}
-use Rattle.order_text.specs.declared.sayings.Saying.the-variants.{Close, Trade}
+use Rattle.order_text.specs.declared.Saying.the-variants.{Close, Trade}
 use Rattle.order.specs.declared.Kind.{Kind}
 use Rattle.order.specs.declared.Kind.the-variants.{AtAuction, Limit}
 use Rattle.order.specs.declared.Order.{Order}

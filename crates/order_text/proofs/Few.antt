@@ -1,5 +1,5 @@
 -- A text that is read asks for at most 512 orders. Assumes nothing.
-use mathlib.Core.Path.{_≡_, refl, sym, ap, _∙_, subst}
+use mathlib.Core.Path.{_≡_, refl, subst}
 use mathlib.Core.Bool.{Bool, true, false, cond}
 use mathlib.Core.List.{List, [], _∷_, _++_}
 use Prim.Native.Nat.{ℕ, _+_, _≤_}
@@ -13,13 +13,12 @@ use Rattle.std.specs.declared.option.Option.the-variants.{Some, None}
 use Rattle.std.specs.declared.result.Result.{Result}
 use Rattle.std.specs.declared.result.Result.the-variants.{Ok, Err}
 use Rattle.order.specs.declared.Kind.{Kind}
-use Rattle.order.specs.declared.Order.{Order}
 use Rattle.order.specs.declared.Side.{Side}
 use Rattle.order_text.specs.declared.faults.BadLine.{BadLine}
 use Rattle.order_text.specs.declared.faults.Fault.{Fault}
-use Rattle.order_text.specs.declared.faults.Fault.the-variants.{SecondClose, TooManyOrders}
-use Rattle.order_text.specs.declared.sayings.Saying.{Saying}
-use Rattle.order_text.specs.declared.sayings.Saying.the-variants.{Nothing, Close, Trade}
+use Rattle.order_text.specs.declared.faults.Fault.the-variants.{TooManyOrders}
+use Rattle.order_text.specs.declared.Saying.{Saying}
+use Rattle.order_text.specs.declared.Saying.the-variants.{Nothing, Close, Trade}
 use Rattle.words.specs.Cutting.{lines, words, said}
 use Rattle.order_text.specs.Meaning.{and-then, line-says}
 use Rattle.order_text.specs.Asking.{Asked, nothing-asked, entry, with-close, with-saying, at-line, with-line, with-lines, read-text}

@@ -19,8 +19,8 @@ use Rattle.order_text.specs.declared.faults.Fault.the-variants.{SecondClose, T
 use Rattle.order_text.specs.declared.reading.ReadError.{ReadError}
 use Rattle.order_text.specs.declared.reading.ReadError.the-variants.{Bad, NoMemory}
 use Rattle.order_text.specs.declared.reading.Request.{Request}
-use Rattle.order_text.specs.declared.sayings.Saying.{Saying}
-use Rattle.order_text.specs.declared.sayings.Saying.the-variants.{Nothing, Close, Trade}
+use Rattle.order_text.specs.declared.Saying.{Saying}
+use Rattle.order_text.specs.declared.Saying.the-variants.{Nothing, Close, Trade}
 use Rattle.words.specs.Cutting.{lines, words, said}
 use Rattle.order_text.specs.Meaning.{and-then, line-says}
 

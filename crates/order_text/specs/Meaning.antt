@@ -16,8 +16,8 @@ use Rattle.order.specs.declared.Side.{Side}
 use Rattle.order.specs.declared.Side.the-variants.{Buy, Sell}
 use Rattle.order_text.specs.declared.faults.Fault.{Fault}
 use Rattle.order_text.specs.declared.faults.Fault.the-variants.{UnknownWord, WordMissing, WordTooMany, BadShares, BadPrice, PriceNotLegal}
-use Rattle.order_text.specs.declared.sayings.Saying.{Saying}
-use Rattle.order_text.specs.declared.sayings.Saying.the-variants.{Nothing, Close, Trade}
+use Rattle.order_text.specs.declared.Saying.{Saying}
+use Rattle.order_text.specs.declared.Saying.the-variants.{Nothing, Close, Trade}
 use Rattle.words.specs.Cutting.{number-in}
 
 -- goes on where there is no fault

@@ -1,12 +1,12 @@
 // Orders and a closing price, read from a text.
 ghost use Rattle.order_text.specs.Asking.{with-saying, at-line, with-line, read-text, asked, Gives};
 ghost use Rattle.order_text.specs.Listing.{Reads-back};
+use super::Saying;
+use super::line_says;
 use crate::faults::BadLine;
 use crate::faults::BadLineDebug;
 use crate::faults::BadLinePartialEq;
 use crate::faults::Fault;
-use crate::sayings::Saying;
-use crate::sayings::line_says;
 use ladder::Ladder;
 use order::Order;
 use std::alloc::Global;

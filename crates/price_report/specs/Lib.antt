@@ -1,2 +1,1 @@
-pub mod TableText
 pub mod Reporting

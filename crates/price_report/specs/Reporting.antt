@@ -13,7 +13,7 @@ use Rattle.order_text.specs.declared.reading.ReadError.the-variants.{Bad, NoMem
 use Rattle.order_text.specs.Meaning.{and-then}
 use Rattle.order_text.specs.Asking.{Asked, read-text}
 use Rattle.reasons.specs.Verdicts.{explained}
-use Rattle.price_report.specs.TableText.{table-text}
+use Rattle.price_table.specs.TableText.{table-text}
 
 -- the table of what a text asks for
 abbrev pub table-of : Asked → List ℕ

@@ -5,12 +5,9 @@ use order_text::ReadError;
 use order_text::Request;
 use order_text::read;
 use price_rows::AuctionError;
+use price_table::table;
 use reasons::explain;
 use std::alloc::Global;
-
-mod rows;
-
-pub use rows::table;
 
 // The report on the orders of a text, or its first bad line.
 pub fn report<L: Ladder>(heap: Global, ladder: &L, text: &[u8]) -> Result<String, ReadError>

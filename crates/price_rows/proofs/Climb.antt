@@ -1,11 +1,10 @@
 -- From any price of the range upwards there is one that an order names and that matches no less. Assumes nothing.
 use mathlib.Core.Path.{_≡_, refl, sym, ap, _∙_, subst}
-use mathlib.Core.Bool.{Bool, true, false, cond, _&&_}
+use mathlib.Core.Bool.{cond, _&&_}
 use mathlib.Core.List.{List, [], _∷_}
 use mathlib.Core.Logic.{_⊎_, inl, inr}
-use Prim.Native.Nat.{ℕ, zero, suc, _+_, _≤_, _<_}
+use Prim.Native.Nat.{ℕ, zero, suc, _+_, _≤_}
 use native.Mathlib.Omega.{arith}
-use lib.Dec.{leb, eqb}
 use Rattle.std.specs.shelf.Lists.{Has, sumBy}
 use Rattle.std.proofs.shelf.Sums.{sumBy-cons}
 use Rattle.std.proofs.shelf.Tests.{cases-eq}
@@ -16,7 +15,7 @@ use Rattle.order.specs.declared.Kind.{Kind}
 use Rattle.order.specs.declared.Kind.the-variants.{AtAuction, Limit}
 use Rattle.order.specs.declared.Order.{Order}
 use Rattle.order.specs.Orders.{same-side, takes}
-use Rattle.price_rows.specs.Amounts.{shares-of, shares-at, demand, supply}
+use Rattle.price_rows.specs.Amounts.{shares-of, demand, supply}
 use Rattle.price_rows.specs.Reach.{matched, Rests, Names, Spans}
 use Rattle.price_rows.proofs.Members.{has-here, has-there, has-none}
 use Rattle.price_rows.proofs.Reaching.{rests-here, rests-there, rests-cons}

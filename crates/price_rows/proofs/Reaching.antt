@@ -1,12 +1,12 @@
 -- The range and the candidates in terms of the orders. Assumes nothing.
 use mathlib.Core.Path.{_≡_, refl, sym, ap, _∙_, subst}
-use mathlib.Core.Bool.{Bool, true, false, cond, _&&_}
-use mathlib.Core.List.{List, [], _∷_, _++_}
+use mathlib.Core.Bool.{Bool, true, false, cond}
+use mathlib.Core.List.{List, [], _∷_}
 use mathlib.Core.Logic.{_⊎_, inl, inr}
-use Prim.Native.Nat.{ℕ, _≤_}
+use Prim.Native.Nat.{ℕ}
 use native.Mathlib.Omega.{arith}
 use Rattle.std.specs.Iters.{folded}
-use Rattle.std.specs.shelf.Lists.{Has, joined}
+use Rattle.std.specs.shelf.Lists.{Has}
 use Rattle.std.proofs.shelf.Elements.{has-append-left, has-append-right}
 use Rattle.std.proofs.shelf.Tests.{and-parts, and-from, leb-true, le-leb, both-ways}
 use Rattle.std.proofs.shelf.Ways.{tells}
@@ -19,7 +19,7 @@ use Rattle.order.specs.declared.Kind.the-variants.{AtAuction, Limit}
 use Rattle.order.specs.declared.Order.{Order}
 use Rattle.order.specs.Orders.{same-side, within-limit, better-limit}
 use Rattle.price_rows.specs.Amounts.{better-of, best-with, best-limit, reached-by, in-range, named-by, named-prices, named-in-range, candidates}
-use Rattle.price_rows.specs.Reach.{Rests, Names, Reaches, Spans}
+use Rattle.price_rows.specs.Reach.{Rests, Names, Spans}
 use Rattle.price_rows.proofs.Members.{has-here, has-there, has-none, has-cons, has-append-cases, kept-has, has-kept}
 use Rattle.price_rows.proofs.Rising.{rising-has, has-rising}
 

@@ -2,7 +2,7 @@
 use mathlib.Core.Path.{_≡_}
 use mathlib.Core.List.{List, map}
 use Prim.Native.Nat.{ℕ, _≤_, _<_}
-use lib.ListN.{length, take}
+use lib.ListN.{length, take, drop}
 use Rattle.std.specs.Of.Vec.{vec-items}
 use Rattle.std.specs.declared.vec.Vec.{Vec}
 use Rattle.std.specs.declared.alloc.Global.{Global}
@@ -28,8 +28,10 @@ Rows-answered orders (Ok rows) = (length orders ≤ 512) × (vec-items rows ≡ 
 Rows-answered orders (Err TooManyOrders) = 512 < length orders
 Rows-answered orders (Err NoMemory) = length orders ≤ 512
 
--- the rows in entry order at the front of the table, and how many they are; a refusal exactly where there are over 512 orders
-abbrev pub Rows-entered : List Order → List PriceRow → Result ℕ AuctionError → Type 0
-Rows-entered orders table (Ok n) = (length orders ≤ 512) × (n ≤ 512) × (take n table ≡ entry-rows orders)
-Rows-entered orders table (Err TooManyOrders) = 512 < length orders
-Rows-entered orders table (Err NoMemory) = ⊥
+-- the rows in entry order go to the front of the table, and the answer is how many they are; what stands beyond them stays.
+-- A refusal, exactly where there are over 512 orders, changes nothing
+abbrev pub Rows-entered : List Order → List PriceRow → List PriceRow → Result ℕ AuctionError → Type 0
+Rows-entered orders before after (Ok n) =
+    (length orders ≤ 512) × (n ≤ 512) × (take n after ≡ entry-rows orders) × (drop n after ≡ drop n before)
+Rows-entered orders before after (Err TooManyOrders) = (512 < length orders) × (after ≡ before)
+Rows-entered orders before after (Err NoMemory) = ⊥

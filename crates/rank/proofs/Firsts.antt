@@ -2,12 +2,10 @@
 use mathlib.Core.Path.{_≡_, refl, sym, ap, _∙_, subst}
 use mathlib.Core.Bool.{Bool, true, false, cond}
 use mathlib.Core.List.{List, [], _∷_, _++_}
-use mathlib.Core.Logic.{_⊎_, inl, inr}
-use Prim.Native.Nat.{ℕ, _<_, _+_}
+use mathlib.Core.Logic.{inl, inr}
+use Prim.Native.Nat.{ℕ, _+_}
 use native.Mathlib.Omega.{arith}
-use lib.ListN.{length, getD, take}
 use Rattle.std.specs.Iters.{folded}
-use Rattle.std.specs.shelf.Lists.{Has}
 use Rattle.std.proofs.shelf.Elements.{has-push, has-push-cases, has-append-left}
 use Rattle.std.proofs.shelf.Lists.{append-nil, append-assoc}
 use Rattle.std.proofs.shelf.Tests.{cases-bool, both-ways}

@@ -1,7 +1,7 @@
 -- What a rank is, and the first of a list by rank. Assumes nothing.
 use mathlib.Core.Path.{_≡_}
 use mathlib.Core.Bool.{Bool, true, false, cond}
-use mathlib.Core.List.{List, [], _∷_}
+use mathlib.Core.List.{List}
 use Prim.Native.Nat.{ℕ}
 use Rattle.std.specs.Iters.{folded}
 use Rattle.std.specs.Options.{Cases}

@@ -6,7 +6,7 @@ use mathlib.Core.Logic.{inl, inr}
 use Prim.Native.Nat.{ℕ, _+_, _<_}
 use native.Mathlib.Omega.{arith}
 use lib.Dec.{eqb}
-use Rattle.std.specs.shelf.Lists.{Has, All, sumBy, countBy}
+use Rattle.std.specs.shelf.Lists.{Has, All, countBy}
 use Rattle.std.proofs.shelf.Elements.{all-weaker, all-has}
 use Rattle.std.proofs.shelf.Sums.{sumBy-cons}
 use Rattle.std.proofs.shelf.Tests.{eq-eqb, ne-eqb}

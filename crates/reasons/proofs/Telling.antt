@@ -2,10 +2,10 @@
 use mathlib.Core.Path.{_≡_, refl, sym, ap, _∙_, subst}
 use mathlib.Core.Bool.{Bool, true, false, cond}
 use mathlib.Core.List.{List, [], _∷_, map}
-use mathlib.Core.Logic.{_⊎_, inl, inr}
-use Prim.Native.Nat.{ℕ, _+_, _-_, _≤_, _<_}
+use mathlib.Core.Logic.{inl, inr}
+use Prim.Native.Nat.{ℕ, _-_, _≤_}
 use native.Mathlib.Omega.{arith}
-use lib.Dec.{leb, ltb, eqb}
+use lib.Dec.{ltb, eqb}
 use lib.ListN.{length}
 use Rattle.std.specs.Options.{mapped}
 use Rattle.std.specs.shelf.Lists.{Has, countBy}
@@ -15,25 +15,23 @@ use Rattle.std.specs.declared.option.Option.the-variants.{Some, None}
 use Rattle.order.specs.declared.Side.the-variants.{Buy, Sell}
 use Rattle.order.specs.declared.Order.{Order}
 use Rattle.price_rows.specs.declared.PriceRow.{PriceRow}
-use Rattle.auction.specs.declared.AuctionPrice.{AuctionPrice}
 use Rattle.auction.specs.declared.ThirdRule.{ThirdRule}
 use Rattle.auction.specs.declared.ThirdRule.the-variants.{DemandExceeds, SupplyExceeds, ClosestTo, NoClosingPrice}
 use Rattle.price_rows.specs.Amounts.{row-at, matched-in, surplus-in, candidates, named-in-range}
 use Rattle.price_rows.specs.Rows.{rows-of}
-use Rattle.auction.specs.Rules.{every, unbeaten, first-left, matches-more, leaves-less, left-by-two, exceeds, by-closing-price, third-rule, thousandths, preferred, wins-third, settled, struck-row, priced, auction-price}
+use Rattle.auction.specs.Rules.{every, unbeaten, first-left, matches-more, leaves-less, left-by-two, exceeds, by-closing-price, thousandths, preferred, wins-third, settled, struck-row, priced, auction-price}
 use Rattle.std.specs.declared.result.Result.the-variants.{Ok, Err}
 use Rattle.auction.specs.declared.Decision.{Decision}
 use Rattle.price_rows.specs.declared.AuctionError.the-variants.{TooManyOrders}
 use Rattle.auction.specs.Decided.{by-case, decision, decision-answer}
-use Rattle.price_rows.specs.Reach.{matched, surplus, Names, Spans}
+use Rattle.price_rows.specs.Reach.{matched, surplus}
 use Rattle.price_rows.proofs.Members.{has-here, map-has, has-map}
 use Rattle.auction.proofs.Unbeaten.{every-at, every-all, unbeaten-has, has-unbeaten}
 use Rattle.price_rows.proofs.Rising.{rises-all}
 use Rattle.auction.proofs.Chosen.{Tops, same-price, left-ties, ties-left}
-use Rattle.auction.proofs.Deciding.{row-is, same-row}
+use Rattle.auction.proofs.Deciding.{row-is}
 use Rattle.price_rows.proofs.Reaching.{candidate-from}
 use Rattle.auction.proofs.BestPrice.{row-has, row-price}
-use Rattle.reasons.specs.declared.Verdict.{Verdict}
 use Rattle.reasons.specs.declared.Verdict.the-variants.{Struck, MatchesLess, LeavesMore, LostByThird}
 use Rattle.reasons.specs.declared.Candidate.{Candidate}
 use Rattle.reasons.specs.Verdicts.{verdict-of, candidate-of, judged, explained}

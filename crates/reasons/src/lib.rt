@@ -1,11 +1,10 @@
 // Why each candidate price won or lost.
 ghost use mathlib.Core.List.{map};
 ghost use mathlib.Core.Path.{_≡_};
-ghost use lib.ListN.{length};
 ghost use Rattle.std.specs.Of.Vec.{vec-items};
 ghost use Rattle.std.specs.Vec.{made};
 ghost use Rattle.auction.specs.Rules.{thousandths, auction-price};
-ghost use Rattle.reasons.specs.Verdicts.{verdict-of, candidate-of, explained, Explained};
+ghost use Rattle.reasons.specs.Verdicts.{verdict-of, candidate-of, Explained};
 ghost use Rattle.reasons.specs.Truth.{Explains-price};
 use auction::Decision;
 use auction::ThirdRule;

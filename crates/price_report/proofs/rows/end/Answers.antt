@@ -1,4 +1,0 @@
-use Rattle.price_report.proofs.rows.end.Needs as need
-
-pub returns-in-Struck : need.returns-in-Struck
-returns-in-Struck c = rw (c .in-Struck .is) (c .format .ensures .made)
