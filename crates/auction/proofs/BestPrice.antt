@@ -13,7 +13,7 @@ use Rattle.auction.specs.Rules.{settled, row_ahead, row_key, struck_row, priced,
 use Rattle.price_rows.specs.Reach.{surplus, Names, Reaches, Spans}
 use Rattle.auction.specs.Laws.{Best, BestPrice}
 use Rattle.price_rows.proofs.Members.{map_has, has_map}
-use Rattle.auction.specs.Chosen.{any_row, Tops, leads_tops, chosen_none, chosen_some}
+use Rattle.auction.proofs.Chosen.{any_row, Tops, leads_tops, chosen_none, chosen_some}
 use Rattle.auction.specs.PriceLaws.{price_lawful}
 use Rattle.auction.proofs.Deciding.{row_is, same_row}
 use Rattle.price_rows.proofs.Reaching.{candidate_from, candidate_to}

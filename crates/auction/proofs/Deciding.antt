@@ -14,7 +14,7 @@ use Rattle.auction.specs.Rules.{exceeds, by_closing_price, third_at_ties, thousa
 use Rattle.auction.specs.Decided.{by_case, decision}
 use Rattle.price_rows.proofs.Members.{map_has, has_map}
 use Rattle.price_rows.proofs.Rising.{rising_has, has_rising}
-use Rattle.auction.specs.Chosen.{any_row, leads_tops, every_left, chosen_none, chosen_some}
+use Rattle.auction.proofs.Chosen.{any_row, leads_tops, every_left, chosen_none, chosen_some}
 
 module _ (os : List Order) where
   -- the rows of the candidates and those in entry order are the same rows

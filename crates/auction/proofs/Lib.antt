@@ -1,3 +1,5 @@
+pub mod Unbeaten
+pub mod Chosen
 pub mod Deciding
 pub mod BestPrice
 pub mod Answering

@@ -2,5 +2,3 @@ pub mod Rules
 pub mod Decided
 pub mod Laws
 pub mod PriceLaws
-pub mod Chosen
-pub mod Unbeaten

@@ -1,5 +1,6 @@
--- The price rank keeps the laws of a rank, by any distance. Assumes nothing.
-use Rattle.std.specs.Prelude.{◌≡◌, ℕ, Bool, true, false, ◌&&◌, ◌||◌, [], ◌∷◌, ◌==◌, nat_lt}
+-- The price rank keeps the laws of a rank, by any distance. It stands here, and not among the proofs, since a rank hands
+-- out its own proof of its laws. Assumes nothing.
+use Rattle.std.specs.Prelude.{◌≡◌, ℕ, ◌≤◌, Bool, true, false, ◌&&◌, ◌||◌, [], ◌∷◌, ◌==◌, nat_lt}
 use Rattle.std.proofs.Common.{sym, ap, ◌∙◌, arith}
 use Rattle.std.proofs.lemmas.Bool.Decides.{nat_tests}
 use Rattle.rank.specs.Ranked.{Lawful}
@@ -8,7 +9,17 @@ use Rattle.auction.specs.declared.ThirdRule.{ThirdRule}
 use Rattle.auction.specs.declared.ThirdRule.TheVariants.{DemandExceeds, SupplyExceeds, ClosestTo, NoClosingPrice}
 use Rattle.price_rows.specs.Amounts.{matched_in, surplus_in}
 use Rattle.auction.specs.Rules.{preferred, wins_third, row_ahead, row_key}
-use Rattle.auction.specs.Chosen.{behind, same_price}
+
+-- what it says that one is not ahead of another by three tests one after the other
+pub behind : (m n s t : ℕ) (w : Bool) → (nat_lt n m || (m == n && (nat_lt s t || (s == t && w)))) ≡ false → (m ≤ n) × (m ≡ n → t ≤ s) × (m ≡ n → s ≡ t → w ≡ false)
+behind m n s t w e = (grind (arith, nat_tests), grind (arith, nat_tests), grind (arith, nat_tests))
+
+-- two prices neither of which is preferred are one
+pub same_price : (distance : ℕ → ℕ → ℕ) (third : ThirdRule) (p q : ℕ) → preferred distance third p q ≡ false → preferred distance third q p ≡ false → p ≡ q
+same_price distance DemandExceeds p q e f = grind (arith, nat_tests)
+same_price distance SupplyExceeds p q e f = grind (arith, nat_tests)
+same_price distance (ClosestTo close) p q e f = grind (arith, nat_tests)
+same_price distance NoClosingPrice p q e f = grind (arith, nat_tests)
 
 -- more of the first number, else less of the second, else a third test
 abbrev lex : ℕ → ℕ → ℕ → ℕ → Bool → Bool

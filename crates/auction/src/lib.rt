@@ -1,4 +1,6 @@
 // The auction price of a list of orders.
+#![tactic(auto)]
+
 mod price;
 
 pub use price::{PriceRank, auction_price, decide};

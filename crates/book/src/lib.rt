@@ -1,4 +1,6 @@
 // What a book of resting orders means, and the decisions that all books share.
+#![tactic(auto)]
+
 ghost use Rattle.std.specs.Prelude.{◌≡◌, ℕ, List, length};
 ghost use Rattle.order.specs.Orders.{first_ranked};
 ghost use Rattle.order.specs.declared.Order.{Order};

@@ -1,4 +1,6 @@
 // Calls that change a book, and the lines that ask for them.
+#![tactic(auto)]
+
 ghost use Rattle.std.specs.Prelude.{◌≡◌};
 ghost use Rattle.book.specs.Books.{answer};
 ghost use Rattle.book_calls.specs.Calls.{call_refusal, call_list};

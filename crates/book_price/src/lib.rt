@@ -1,4 +1,6 @@
 // The auction price over any book, and why.
+#![tactic(auto)]
+
 ghost use Rattle.std.specs.Prelude.{◌≡◌, ◌≤◌, true, List, length, take, IfOk};
 ghost use Rattle.order.specs.declared.Order.{Order};
 ghost use Rattle.auction.specs.Laws.{BestPrice};

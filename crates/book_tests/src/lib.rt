@@ -1,3 +1,5 @@
 // Books at their edges, by example.
+#![tactic(auto)]
+
 #[cfg(test)]
 mod books;

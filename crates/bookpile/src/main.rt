@@ -1,4 +1,6 @@
 // A pile of two caps over a flat book: makes the calls of a text on it, and shows what rests.
+#![tactic(auto)]
+
 use anyhow::anyhow;
 use book::{Book, BookRefusal};
 use book_calls::{BookCall, play, read_call};

@@ -1,4 +1,6 @@
 // The capped book: any book, with one cap on each broker's resting orders.
+#![tactic(auto)]
+
 ghost use Rattle.std.specs.Prelude.{◌≡◌, ◌-◌};
 ghost use Rattle.std.specs.Option.{option_to_list};
 ghost use Rattle.book.specs.Books.{answer};

@@ -1,4 +1,6 @@
 // The flat book: rows in entry order, in memory that the renter lends.
+#![tactic(auto)]
+
 ghost use Rattle.std.specs.Prelude.{◌≡◌, ◌+◌, ◌-◌, ◌<◌, ◌≤◌, true, [], ◌∷◌, ◌++◌, length, Some, slice_set};
 ghost use Rattle.std.specs.List.{remove};
 ghost use Rattle.order.specs.Orders.{first_ranked};

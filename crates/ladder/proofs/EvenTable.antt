@@ -1,5 +1,5 @@
 -- The even ladder as a table of one band.
-use Rattle.std.proofs.Common.{◌≡◌, ℕ, ◌-◌, ◌*◌, ◌<◌, ◌≤◌, min, max, true, [], ◌∷◌, Some, None, ap, ◌∙◌}
+use Rattle.std.proofs.Common.{◌≡◌, ℕ, ◌*◌, ◌<◌, ◌≤◌, min, max, true, [], ◌∷◌, Some, None, ap, ◌∙◌}
 use Rattle.ladder.specs.Bands.{band, prices_of}
 use Rattle.ladder.specs.Steps.{rounded_down, rounded_up}
 use Rattle.ladder.specs.Prices.{even_prices, highest_at_or_below, lowest_at_or_above}

@@ -1,6 +1,7 @@
 -- Rounding over any list of prices, and what it means on a rising one.
-use Rattle.std.proofs.Common.{◌≡◌, ℕ, ◌<◌, ◌≤◌, Bool, true, false, cond, eqb, leb, ◌⊎◌, List, [], ◌∷◌, ◌++◌, Some, None, Decides, Option, sym, refl, ap, ◌∙◌, subst, inl, inr, ⊎_elim, arith, MatchOption}
+use Rattle.std.proofs.Common.{◌≡◌, ℕ, ◌<◌, ◌≤◌, Bool, true, false, cond, eqb, leb, ◌⊎◌, List, [], ◌∷◌, ◌++◌, Some, None, Decides, Option, sym, refl, ap, ◌∙◌, subst, inl, inr, ⊎_elim, arith, nat_eq}
 use Rattle.std.specs.List.{AllByRecursion as All}
+use Rattle.std.specs.Option.{option_eq}
 use Rattle.std.proofs.lemmas.Bool.{le-leb, lt-leb, cases_lt, eqb-true, eq-eqb, or_cases, or_left, or_right, both_ways, false≢true}
 use Rattle.std.proofs.lemmas.Bool.Decides.{same_from_decides}
 use Rattle.ladder.specs.Prices.{Rising, legal, or_else, highest_at_or_below, lowest_at_or_above}
@@ -160,11 +161,11 @@ pub nearest_above : (n : ℕ) (xs : List ℕ) → Rising xs → NearestAbove n x
 nearest_above n xs rising = nearest_upper n xs (lowest_at_or_above n xs) (upper n xs rising)
 
 -- a test whether the answer is p itself
-answers : (p : ℕ) (r : Bool) (o : Option ℕ) → MatchOption o (r ≡ false) (λ x. Decides r (x ≡ p)) → Decides r (o ≡ Some p)
-answers p r (Some x) h = (λ t. ap Some (h.0 t), λ e. let same : x ≡ p = cc in h.1 same)
+answers : (p : ℕ) (r : Bool) (o : Option ℕ) → r ≡ option_eq nat_eq o (Some p) → Decides r (o ≡ Some p)
+answers p r (Some x) h = (λ t. ap Some (eqb-true x p (sym h ∙ t)), λ e. let same : x ≡ p = cc in h ∙ eq-eqb x p same)
 answers p r None h = (λ t. absurd (both_ways r h t), λ e. absurd (some_not_none p (sym e)))
 
 -- a price is legal where it rounds down to itself
-pub legal_by_rounding : (p : ℕ) (xs : List ℕ) (r : Bool) (o : Option ℕ) → NearestBelow p xs o → MatchOption o (r ≡ false) (λ x. Decides r (x ≡ p)) → r ≡ legal p xs
+pub legal_by_rounding : (p : ℕ) (xs : List ℕ) (r : Bool) (o : Option ℕ) → NearestBelow p xs o → r ≡ option_eq nat_eq o (Some p) → r ≡ legal p xs
 legal_by_rounding p xs r o near h =
     same_from_decides r (legal p xs) (answers p r o h) (near.legal_stays, λ e. (near.found p e).0)

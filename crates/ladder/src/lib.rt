@@ -1,4 +1,6 @@
 // Price ladders: which prices are legal, and the legal prices nearest to a number. Prices are whole thousandths of a dollar.
+#![tactic(auto)]
+
 ghost use Rattle.std.specs.Prelude.{◌≡◌, ℕ, ◌+◌, ◌^◌, ◌<◌, ◌≤◌, List};
 ghost use Rattle.ladder.specs.Nearest.{NearestBelow, NearestAbove};
 ghost use Rattle.ladder.specs.Prices.{Lawful, legal, highest_at_or_below, lowest_at_or_above};
@@ -74,10 +76,10 @@ fn is_answer(price: u32, rounded: Option<u32>) -> bool
 
 // The legal prices nearest to `n`: the highest at or below it, and the lowest at or above it.
 pub fn nearest<L: Ladder>(ladder: &L, n: u32) -> (Option<u32>, Option<u32>)
-    ensures lower { result.0 ≡ highest_at_or_below n (prices ladder.now) }
-    ensures upper { result.1 ≡ lowest_at_or_above n (prices ladder.now) }
-    ensures below { NearestBelow n (prices ladder.now) result.0 }
-    ensures above { NearestAbove n (prices ladder.now) result.1 }
+    ensures lower { result.0 ≡ highest_at_or_below n (L.Ladder.prices ladder.now) }
+    ensures upper { result.1 ≡ lowest_at_or_above n (L.Ladder.prices ladder.now) }
+    ensures below { NearestBelow n (L.Ladder.prices ladder.now) result.0 }
+    ensures above { NearestAbove n (L.Ladder.prices ladder.now) result.1 }
 {
     (ladder.round_down(n), ladder.round_up(n))
 }

@@ -1,4 +1,6 @@
 // Reads orders from standard input and prints the report on their auction.
+#![tactic(auto)]
+
 use anyhow::anyhow;
 use ladder::BandedLadder;
 use order_text::{ReadError, bad_line_text};

@@ -1,4 +1,6 @@
 // Ladders, texts that are read or refused, and reports that are written, by example.
+#![tactic(auto)]
+
 #[cfg(test)]
 mod examples;
 #[cfg(test)]

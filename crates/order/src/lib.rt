@@ -1,4 +1,6 @@
 // Orders, and the order in which those of a side are served.
+#![tactic(auto)]
+
 ghost use Rattle.std.specs.Prelude.{◌≡◌};
 ghost use Rattle.order.specs.Orders.{same_side, within_limit, accepts, better_limit, served_before, order_ahead, order_key, first_ranked, ServedFirst};
 ghost use Rattle.std.proofs.Common.{rules};

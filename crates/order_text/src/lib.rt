@@ -2,6 +2,8 @@
 //
 // A line of the text is blank, or one of `close PRICE`, `buy SHARES PRICE`, `buy SHARES at-auction` and the same two
 // with `sell`. '#' begins a comment. A price is in whole thousandths of a dollar.
+#![tactic(auto)]
+
 ghost use Rattle.std.specs.Prelude.{◌≡◌};
 ghost use Rattle.words.specs.Cutting.{words};
 ghost use Rattle.order_text.specs.Meaning.{shares_in, nothing_after, price_in, kind_in, close_line, trade_line, line_says};

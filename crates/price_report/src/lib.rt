@@ -1,4 +1,6 @@
 // The report on the auction of some orders: every candidate price with its verdict, and the price.
+#![tactic(auto)]
+
 ghost use Rattle.price_report.specs.Reporting.{report_of, Reports};
 
 use ladder::Ladder;

@@ -1,4 +1,6 @@
 // What would trade at each price, and the candidates for the auction price.
+#![tactic(auto)]
+
 ghost use Rattle.std.specs.Prelude.{◌≡◌, ◌≤◌, length, take, drop, filter};
 ghost use Rattle.std.specs.Option.{option_to_list};
 ghost use Rattle.order.specs.declared.Side.TheVariants.{Buy, Sell};

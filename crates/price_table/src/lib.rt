@@ -1,4 +1,6 @@
 // The text of a report: a row for each candidate price, and below them the price that is struck.
+#![tactic(auto)]
+
 ghost use Rattle.std.specs.Prelude.{◌≡◌, IfOk, string_bytes};
 ghost use Rattle.price_table.specs.TableText.{blanks_text, column_text, third_text, verdict_text, row_text, end_text, table_text};
 

@@ -1,4 +1,6 @@
 // Which of two things goes ahead, and the first of a list: one text for everything that has a rank.
+#![tactic(auto)]
+
 ghost use Rattle.std.specs.Prelude.{◌≡◌, ℕ, Bool, List};
 ghost use Rattle.rank.specs.Ranked.{Lawful, better, first_of, IsFirst};
 

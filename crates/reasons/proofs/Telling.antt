@@ -16,9 +16,10 @@ use Rattle.price_rows.specs.declared.AuctionError.TheVariants.{TooManyOrders}
 use Rattle.auction.specs.Decided.{by_case, decision, decision_answer}
 use Rattle.price_rows.specs.Reach.{matched, surplus}
 use Rattle.price_rows.proofs.Members.{has_here, map_has, has_map}
-use Rattle.auction.specs.Unbeaten.{every_at, every_all, unbeaten_has, has_unbeaten}
+use Rattle.auction.proofs.Unbeaten.{every_at, every_all, unbeaten_has, has_unbeaten}
 use Rattle.price_rows.proofs.Rising.{rises_all}
-use Rattle.auction.specs.Chosen.{Tops, same_price, left_ties, ties_left}
+use Rattle.auction.specs.PriceLaws.{same_price}
+use Rattle.auction.proofs.Chosen.{Tops, left_ties, ties_left}
 use Rattle.auction.proofs.Deciding.{row_is}
 use Rattle.price_rows.proofs.Reaching.{candidate_from}
 use Rattle.auction.proofs.BestPrice.{row_has, row_price}
@@ -188,9 +189,9 @@ explains_price close os = go (struck_row thousandths close os) refl
 module _ (close : Option ℕ) (os : List Order) (few : length os ≤ 512) (answer : Option Decision) (d : Decision) (rows given : List PriceRow) (told : List Candidate) where
   pub told_explains : Ok answer ≡ decision_answer close os → answer ≡ Some d → rows ≡ rows_of os → given ≡ rows → told ≡ map (candidate_of d) given → told ≡ explained close os
   told_explains answered struck rows_are are judged_so =
-      let few-answer : decision_answer close os ≡ Ok (decision close os) = ap (λ t. cond t (Ok (decision close os)) (Err TooManyOrders)) (le-leb (length os) 512 few) in
+      let few_answer : decision_answer close os ≡ Ok (decision close os) = ap (λ t. cond t (Ok (decision close os)) (Err TooManyOrders)) (le-leb (length os) 512 few) in
       let is : Some d ≡ decision close os = cc in
       judged_so ∙ ap (map (candidate_of d)) (are ∙ rows_are) ∙ ap (λ o. judged o (rows_of os)) is
 
 pub truth_of : (close : Option ℕ) (os : List Order) (told : List Candidate) → told ≡ explained close os → ExplainsPrice close os (auction_price thousandths close os) told
-truth_of close os told is = subst (ExplainsPrice close os (auction_price thousandths close os)) (sym is) (explains_price close os)
+truth_of close os list is = subst (ExplainsPrice close os (auction_price thousandths close os)) (sym is) (explains_price close os)

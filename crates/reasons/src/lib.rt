@@ -1,4 +1,6 @@
 // Why each candidate price won or lost.
+#![tactic(auto)]
+
 ghost use Rattle.std.specs.Prelude.{◌≡◌, map, IfOk};
 ghost use Rattle.auction.specs.Rules.{thousandths, auction_price};
 ghost use Rattle.reasons.specs.Verdicts.{verdict_of, candidate_of, Explained};

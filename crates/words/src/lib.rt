@@ -1,4 +1,6 @@
 // Lines and words in a text, and numbers in a word.
+#![tactic(auto)]
+
 ghost use Rattle.std.specs.Prelude.{◌≡◌, [], ◌∷◌, drop, MatchOption};
 ghost use Rattle.std.specs.Str.{bytes_eq};
 ghost use Rattle.words.specs.Cutting.{in_class, front, past, words, said, number_in};

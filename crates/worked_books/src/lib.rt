@@ -1,4 +1,6 @@
 // Eight small books and the prices that they open at, proved as one table.
+#![tactic(auto)]
+
 ghost use Rattle.worked_books.specs.Table.{AllOpen, worked_books};
 ghost use Rattle.std.specs.Prelude.{◌≡◌, length};
 

@@ -6,5 +6,5 @@ use Rattle.book.proofs.last.Goals as goal
 pub returns : goal.returns
 returns g c number =
     let xs = g.B.Book.resting c.args.book.now in
-    ap (above_last number) (c.get.ensures ∙ ap (nth xs) (c.saturating-sub.ensures ∙ ap (λ n. n - 1) c.count.ensures))
+    ap (above_last number) (c.get.ensures ∙ ap (nth xs) (c.saturating_sub.ensures ∙ ap (λ n. n - 1) c.count.ensures))
     ∙ last_decides number xs (g.B.Book.kept c.args.book.now).rising

@@ -8,8 +8,8 @@ returns g c =
     let rule = g.B.Book.rule c.args.book.now in
     let xs = g.B.Book.resting c.args.book.now in
     record {
-      answer = c.hand-on.ensures.answer;
-      list = c.hand-on.ensures.list;
-      fixed = c.hand-on.ensures.fixed;
-      others = λ n other. ap (order_of n) c.hand-on.ensures.list ∙ call_others rule c.args.call xs n other;
+      answer = c.hand_on.ensures.answer;
+      list = c.hand_on.ensures.list;
+      fixed = c.hand_on.ensures.fixed;
+      others = λ n other. ap (order_of n) c.hand_on.ensures.list ∙ call_others rule c.args.call xs n other;
     }

@@ -1,7 +1,7 @@
 use Rattle.std.proofs.Common.{◌≡◌, ◌+◌, ◌<◌, length, take, sym, ap, ◌∙◌, arith, take_all}
 use Rattle.book_price.proofs.Copying.{copied_more, none_missing}
 use Rattle.book_price.proofs.copy_orders.Goals as goal
-use Rattle.book_price.proofs.copy_orders.Goals.{in-Some, in-default}
+use Rattle.book_price.proofs.copy_orders.Goals.{in-Some, in_default}
 
 pub loop-k-preserved : goal.loop-k-preserved
 loop-k-preserved g c =
@@ -13,7 +13,7 @@ loop-k-preserved g c =
         c.match-get.array_long,
         ap (take (c.loop-k.k + 1)) w.rows-is ∙ copied_more xs c.loop-k.rows c.loop-k.k w.in-Some.order c.get.result room c.loop-k.invariant.1 c.get.ensures w.in-Some.is,
       )
-      | in-default w ↦ absurd (none_missing xs c.loop-k.k c.get.result here c.get.ensures w.in-default.is)
+      | in_default w ↦ absurd (none_missing xs c.loop-k.k c.get.result here c.get.ensures w.in_default.is)
     ]
 
 pub returns : goal.returns

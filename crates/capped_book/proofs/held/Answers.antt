@@ -6,8 +6,8 @@ use Rattle.capped_book.proofs.held.Goals as goal
 pub loop-k-preserved : goal.loop-k-preserved
 loop-k-preserved g c =
     let xs = g.B.Book.resting c.args.book.now in
-    let on : c.loop-k.n + c.one-if-n.result ≡ held_by c.args.broker (take (c.loop-k.k + 1) xs) =
-    held_more c.args.broker xs c.loop-k.k c.loop-k.n c.one-if-n.result c.get.result c.loop-k.invariant.1 c.get.ensures c.one-if-n.ensures in
+    let on : c.loop-k.n + c.one_if-n.result ≡ held_by c.args.broker (take (c.loop-k.k + 1) xs) =
+    held_more c.args.broker xs c.loop-k.k c.loop-k.n c.one_if-n.result c.get.result c.loop-k.invariant.1 c.get.ensures c.one_if-n.ensures in
     (omega (arith, on, held_within c.args.broker xs (c.loop-k.k + 1)), on)
 
 pub returns : goal.returns

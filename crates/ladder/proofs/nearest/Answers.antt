@@ -9,8 +9,8 @@ returns g c =
     let prices = g.L.Ladder.prices c.args.ladder.now in
     let rising = (g.L.Ladder.lawful c.args.ladder.now).rising in
     record {
-      lower = c.round-down.ensures;
-      upper = c.round-up.ensures;
-      below = subst (λ (o : Option ℕ). NearestBelow n prices o) (sym c.round-down.ensures) (nearest_below n prices rising);
-      above = subst (λ (o : Option ℕ). NearestAbove n prices o) (sym c.round-up.ensures) (nearest_above n prices rising);
+      lower = c.round_down.ensures;
+      upper = c.round_up.ensures;
+      below = subst (λ (o : Option ℕ). NearestBelow n prices o) (sym c.round_down.ensures) (nearest_below n prices rising);
+      above = subst (λ (o : Option ℕ). NearestAbove n prices o) (sym c.round_up.ensures) (nearest_above n prices rising);
     }

@@ -2,7 +2,7 @@ use Rattle.std.proofs.Common.{◌<◌, map, length, take, drop, filter, sym, ap,
 use Rattle.price_rows.specs.Amounts.{row_at, in_range, named_prices}
 use Rattle.price_rows.proofs.Named.{named_first, named_some, named_none, rows_push, beyond_push}
 use Rattle.price_rows.proofs.fill_rows.Goals as goal
-use Rattle.price_rows.proofs.fill_rows.Goals.{in-Some, in-default}
+use Rattle.price_rows.proofs.fill_rows.Goals.{in-Some, in_default}
 
 pub loop-o-preserved : goal.loop-o-preserved
 loop-o-preserved c =
@@ -16,9 +16,9 @@ loop-o-preserved c =
     elim c.match-candidate.branch [
       | in-Some w ↦
           let more = named_some os i _ c.loop-o-test.true _ _ range.ensures.low range.ensures.high _ w.in-Some.ensures in
-          (omega arith, omega (arith, w.n-is), ap₂ take w.n-is w.rows-is ∙ rows_push f _ _ _ _ (named_first os i) _ room inv.2 w.row-at.ensures more, ap₂ drop w.n-is w.rows-is ∙ beyond_push before _ _ _ inv.3 ∙ ap (λ k. drop k before) (sym w.n-is))
-      | in-default w ↦
-          let more = named_none os i _ c.loop-o-test.true _ _ range.ensures.low range.ensures.high w.in-default.ensures in
+          (omega arith, omega (arith, w.n-is), ap₂ take w.n-is w.rows-is ∙ rows_push f _ _ _ _ (named_first os i) _ room inv.2 w.row_at.ensures more, ap₂ drop w.n-is w.rows-is ∙ beyond_push before _ _ _ inv.3 ∙ ap (λ k. drop k before) (sym w.n-is))
+      | in_default w ↦
+          let more = named_none os i _ c.loop-o-test.true _ _ range.ensures.low range.ensures.high w.in_default.ensures in
           (omega arith, omega (arith, w.n-is), ap₂ take w.n-is w.rows-is ∙ inv.2 ∙ ap (map f) (sym more), ap₂ drop w.n-is w.rows-is ∙ inv.3 ∙ ap (λ k. drop k before) (sym w.n-is))
     ]
 

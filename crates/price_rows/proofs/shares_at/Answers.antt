@@ -8,7 +8,7 @@ loop-o-preserved c =
     let i = c.loop-o.invariant in
     let f = shares_of c.args.side c.args.price in
     let more = sum_by_more f c.args.orders.now c.loop-o.o-index _ c.loop-o-test.true in
-    (omega arith, omega arith, ap₂ ◌+◌ i.2 c.shares-of.ensures ∙ sym more)
+    (omega arith, omega arith, ap₂ ◌+◌ i.2 c.shares_of.ensures ∙ sym more)
 
 pub returns : goal.returns
 returns c = c.loop-o.invariant.2 ∙ ap (λ os. shares_at c.args.side os c.args.price) (take_all _ _ c.loop-o-test.false)

@@ -21,6 +21,6 @@ returns c =
     ] in
     let is : c.loop-n.n ≡ prefix_len p bs = omega (arith, c.loop-n.invariant.1) in
     record {
-      front = c.split-at.ensures.front ∙ ap (λ k. take k bs) is ∙ front_take p bs;
-      rest = c.split-at.ensures.back ∙ ap (λ k. drop k bs) is ∙ past_drop p bs;
+      front = c.split_at.ensures.front ∙ ap (λ k. take k bs) is ∙ front_take p bs;
+      rest = c.split_at.ensures.back ∙ ap (λ k. drop k bs) is ∙ past_drop p bs;
     }

@@ -9,13 +9,13 @@ returns-then-b-lt48 c =
     let w = c.args.word.now in
     sym (reads_other c.loop-b.n c.loop-b.b-index w c.loop-b-test.true
     (elim c.then-b-lt48.branch [ then-b-lt48-via-then-b-lt48 k ↦ inl k.if-b-lt48.true | then-b-lt48-via-else-b-lt48+then-b-gt57 k ↦ inr k.if-b-gt57.true ]))
-    ∙ c.loop-b.invariant.1 ∙ number_is w (false-eqb _ 0 c.if-is-empty.ensures) c.if-word-gt-MOST-DIGITS.false
+    ∙ c.loop-b.invariant.1 ∙ number_is w (false-eqb _ 0 c.if-is_empty.ensures) c.if-word-gt-MOST_DIGITS.false
 
-pub overflow-mul-n : goal.overflow-mul-n
-overflow-mul-n c = omega (arith, small c.loop-b.n c.loop-b.b-index _ c.loop-b.invariant.0 c.loop-b-test.true c.if-word-gt-MOST-DIGITS.false)
+pub overflow_mul-n : goal.overflow_mul-n
+overflow_mul-n c = omega (arith, small c.loop-b.n c.loop-b.b-index _ c.loop-b.invariant.0 c.loop-b-test.true c.if-word-gt-MOST_DIGITS.false)
 
-pub overflow-add-n : goal.overflow-add-n
-overflow-add-n c = omega (arith, small c.loop-b.n c.loop-b.b-index _ c.loop-b.invariant.0 c.loop-b-test.true c.if-word-gt-MOST-DIGITS.false)
+pub overflow_add-n : goal.overflow_add-n
+overflow_add-n c = omega (arith, small c.loop-b.n c.loop-b.b-index _ c.loop-b.invariant.0 c.loop-b-test.true c.if-word-gt-MOST_DIGITS.false)
 
 pub loop-b-preserved : goal.loop-b-preserved
 loop-b-preserved c =
@@ -29,4 +29,4 @@ loop-b-preserved c =
 pub returns : goal.returns
 returns c =
     let w = c.args.word.now in
-    sym (reads_all c.loop-b.n c.loop-b.b-index w c.loop-b-test.false) ∙ c.loop-b.invariant.1 ∙ number_is w (false-eqb _ 0 c.if-is-empty.ensures) c.if-word-gt-MOST-DIGITS.false
+    sym (reads_all c.loop-b.n c.loop-b.b-index w c.loop-b-test.false) ∙ c.loop-b.invariant.1 ∙ number_is w (false-eqb _ 0 c.if-is_empty.ensures) c.if-word-gt-MOST_DIGITS.false

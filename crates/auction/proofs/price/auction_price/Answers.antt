@@ -9,6 +9,6 @@ returns-in-Ok c =
     let close = c.args.close in
     let d = c.in-Ok.decided in
     record {
-      value = ap Ok c.price-of.ensures ∙ answer_is close os d c.in-Ok.ensures;
-      best = subst (BestPrice os) (sym c.price-of.ensures) (answer_best close os d c.in-Ok.ensures);
+      value = ap Ok c.price_of.ensures ∙ answer_is close os d c.in-Ok.ensures;
+      best = subst (BestPrice os) (sym c.price_of.ensures) (answer_best close os d c.in-Ok.ensures);
     }

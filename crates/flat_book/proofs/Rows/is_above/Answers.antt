@@ -8,5 +8,5 @@ pub returns : goal.returns
 returns c =
     let long = length-take-le c.args.self.now.count c.args.self.now.rows.now c.requires.within in
     c.above_last.ensures
-    ∙ ap (above_last c.args.number) (c.get.ensures ∙ ap (nth (listed c.args.self.now)) (c.saturating-sub.ensures ∙ ap (λ n. n - 1) (sym long)))
+    ∙ ap (above_last c.args.number) (c.get.ensures ∙ ap (nth (listed c.args.self.now)) (c.saturating_sub.ensures ∙ ap (λ n. n - 1) (sym long)))
     ∙ last_decides c.args.number (listed c.args.self.now) c.requires.ordered

@@ -1,5 +1,5 @@
 -- The first by price rank is what the three rules leave. Assumes nothing.
-use Rattle.std.specs.Prelude.{◌≡◌, ℕ, ◌≤◌, Bool, true, false, not, ◌&&◌, ◌||◌, List, Some, None, ◌==◌, nat_lt, refl}
+use Rattle.std.specs.Prelude.{◌≡◌, ℕ, ◌≤◌, Bool, true, false, not, ◌&&◌, ◌||◌, List, Some, None, ◌==◌, refl}
 use Rattle.std.proofs.Common.{sym, ap, ◌∙◌, arith}
 use Rattle.std.specs.List.{ContainsAt as Has}
 use Rattle.std.proofs.lemmas.Bool.{true≢false, le-ltb, ltb-false, eqb-true}
@@ -7,21 +7,10 @@ use Rattle.std.proofs.lemmas.Bool.Decides.{nat_tests}
 use Rattle.rank.specs.Ranked.{NoneCounts, Leads}
 use Rattle.price_rows.specs.declared.PriceRow.{PriceRow}
 use Rattle.auction.specs.declared.ThirdRule.{ThirdRule}
-use Rattle.auction.specs.declared.ThirdRule.TheVariants.{DemandExceeds, SupplyExceeds, ClosestTo, NoClosingPrice}
 use Rattle.price_rows.specs.Amounts.{matched_in, surplus_in}
-use Rattle.auction.specs.Rules.{every, unbeaten, first_left, matches_more, leaves_less, left_by_two, preferred, wins_third, row_ahead, at_ties}
-use Rattle.auction.specs.Unbeaten.{every_at, every_all, unbeaten_has, has_unbeaten, first_left_none, first_left_some}
-
--- what it says that one is not ahead of another by three tests one after the other
-pub behind : (m n s t : ℕ) (w : Bool) → (nat_lt n m || (m == n && (nat_lt s t || (s == t && w)))) ≡ false → (m ≤ n) × (m ≡ n → t ≤ s) × (m ≡ n → s ≡ t → w ≡ false)
-behind m n s t w e = (grind (arith, nat_tests), grind (arith, nat_tests), grind (arith, nat_tests))
-
--- two prices neither of which is preferred are one
-pub same_price : (distance : ℕ → ℕ → ℕ) (third : ThirdRule) (p q : ℕ) → preferred distance third p q ≡ false → preferred distance third q p ≡ false → p ≡ q
-same_price distance DemandExceeds p q e f = grind (arith, nat_tests)
-same_price distance SupplyExceeds p q e f = grind (arith, nat_tests)
-same_price distance (ClosestTo close) p q e f = grind (arith, nat_tests)
-same_price distance NoClosingPrice p q e f = grind (arith, nat_tests)
+use Rattle.auction.specs.Rules.{every, unbeaten, first_left, matches_more, leaves_less, left_by_two, wins_third, row_ahead, at_ties}
+use Rattle.auction.specs.PriceLaws.{behind, same_price}
+use Rattle.auction.proofs.Unbeaten.{every_at, every_all, unbeaten_has, has_unbeaten, first_left_none, first_left_some}
 
 -- every row counts
 abbrev pub any_row : PriceRow → Bool
