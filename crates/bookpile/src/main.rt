@@ -1,7 +1,6 @@
 // A pile of two caps over a flat book: makes the calls of a text on it, and shows what rests.
 #![tactic(auto)]
 
-use anyhow::anyhow;
 use book::{Book, BookRefusal};
 use book_calls::{BookCall, play, read_call};
 use book_price::book_price;
@@ -9,6 +8,7 @@ use capped_book::{CappedBook, pile};
 use flat_book::FlatBook;
 use order::{Kind, Order, Side};
 use std::io::Read;
+use std::process::ExitCode;
 use words::{cut_line, is_word, next_word, number, uncommented};
 
 // The most rows that the program takes.
@@ -96,8 +96,8 @@ fn answer_call<B: Book>(rt: &HostRuntime, book: &mut B, call: BookCall) -> anyho
     Ok(())
 }
 
-// Makes the calls of a text, which begins with its second line.
-fn answer_calls<B: Book>(rt: &HostRuntime, book: &mut B, text: &[u8]) -> anyhow::Result<()> {
+// Makes the calls of a text, which begins with its second line; fails at a line that is refused.
+fn answer_calls<B: Book>(rt: &HostRuntime, book: &mut B, text: &[u8]) -> anyhow::Result<ExitCode> {
     let mut rest = text;
     let mut place = 2u64;
     while !rest.is_empty() {
@@ -108,13 +108,13 @@ fn answer_calls<B: Book>(rt: &HostRuntime, book: &mut B, text: &[u8]) -> anyhow:
             Err(fault) => {
                 let message = fault.message();
                 eprintln!(rt; "line {place}: {message}")?;
-                return Err(anyhow!("a line is refused"));
+                return Ok(ExitCode::FAILURE);
             }
         }
         place = place.saturating_add(1);
         rest = tail;
     }
-    Ok(())
+    Ok(ExitCode::SUCCESS)
 }
 
 fn side_name(side: Side) -> &'static str {
@@ -180,13 +180,16 @@ fn run_pile<B: Book + Drop>(
     below: B,
     sizes: Sizes,
     text: &[u8],
-) -> anyhow::Result<()> {
+) -> anyhow::Result<ExitCode> {
     let mut book = pile(below, sizes.lower, sizes.upper);
-    answer_calls(rt, &mut book, text)?;
-    show_book(rt, &book)
+    let answered = answer_calls(rt, &mut book, text)?;
+    if answered == ExitCode::SUCCESS {
+        show_book(rt, &book)?;
+    }
+    Ok(answered)
 }
 
-fn main(rt: HostRuntime) -> anyhow::Result<()> {
+fn main(rt: HostRuntime) -> anyhow::Result<ExitCode> {
     let heap = rt.alloc();
     let mut text = Vec::new(heap);
     rt.stdin().read_to_end(&mut text)?;
@@ -195,7 +198,7 @@ fn main(rt: HostRuntime) -> anyhow::Result<()> {
         eprintln!(rt;
             "line 1: it is not pile ROWS LOWER UPPER, with at most 100000 rows and caps of at most 255"
         )?;
-        return Err(anyhow!("a line is refused"));
+        return Ok(ExitCode::FAILURE);
     };
     let mut rows = vec![in heap; EMPTY; sizes.rows]?;
     run_pile(&rt, FlatBook::new(rows.as_mut_slice()), sizes, calls)
