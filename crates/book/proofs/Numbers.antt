@@ -2,7 +2,7 @@
 use Rattle.std.proofs.Common.{◌≡◌, ℕ, suc, ◌-◌, ◌<◌, Bool, true, eqb, ltb, leb, List, [], ◌∷◌, ◌++◌, length, None, filter, refl, ap, ◌∙◌, arith}
 use Rattle.order.specs.declared.Order.{Order}
 use Rattle.std.specs.Option.{option_to_list}
-use Rattle.std.specs.List.{AllByRecursion as All}
+use Rattle.std.specs.List.{AllByRecursion}
 use Rattle.std.proofs.ByRecursion.{all_kept_by, All-push}
 use Rattle.std.proofs.lemmas.Bool.{and_parts, and_from, ltb-true, lt-ltb, cond_both}
 use Rattle.std.proofs.lemmas.Bool.Decides.{nat_tests}
@@ -11,15 +11,15 @@ use Rattle.book.specs.Books.{below_all, in_entry_order, nth, above_all, above_la
 -- each number is below all that follow, as facts
 abbrev pub Rising : List Order → Type 0
 Rising [] = Unit {0}
-Rising (o ∷ os) = All (λ later. o.number < later.number) os × Rising os
+Rising (o ∷ os) = AllByRecursion (λ later. o.number < later.number) os × Rising os
 
-below_each : (n : ℕ) (xs : List Order) → below_all n xs ≡ true → All (λ o. n < o.number) xs
+below_each : (n : ℕ) (xs : List Order) → below_all n xs ≡ true → AllByRecursion (λ o. n < o.number) xs
 below_each n [] e = tt
 below_each n (x ∷ xs) e =
     let parts = and_parts (ltb n x.number) (below_all n xs) e in
     (ltb-true n x.number parts.0, below_each n xs parts.1)
 
-each_below : (n : ℕ) (xs : List Order) → All (λ o. n < o.number) xs → below_all n xs ≡ true
+each_below : (n : ℕ) (xs : List Order) → AllByRecursion (λ o. n < o.number) xs → below_all n xs ≡ true
 each_below n [] h = refl
 each_below n (x ∷ xs) h = and_from _ _ (lt-ltb n x.number h.0) (each_below n xs h.1)
 
@@ -47,14 +47,14 @@ pub last_decides : (n : ℕ) (xs : List Order) → in_entry_order xs ≡ true �
 last_decides n xs e = last_of_rising n xs (rises xs e)
 
 -- the test as a fact of each order
-pub above_each : (n : ℕ) (xs : List Order) → above_all n xs ≡ true → All (λ o. o.number < n) xs
+pub above_each : (n : ℕ) (xs : List Order) → above_all n xs ≡ true → AllByRecursion (λ o. o.number < n) xs
 above_each n [] e = tt
 above_each n (x ∷ xs) e =
     let parts = and_parts (ltb x.number n) (above_all n xs) e in
     (ltb-true x.number n parts.0, above_each n xs parts.1)
 
 -- one number more at the end, above all
-pub rising_push : (o : Order) (xs : List Order) → Rising xs → All (λ x. x.number < o.number) xs → Rising (xs ++ o ∷ [])
+pub rising_push : (o : Order) (xs : List Order) → Rising xs → AllByRecursion (λ x. x.number < o.number) xs → Rising (xs ++ o ∷ [])
 rising_push o [] r above = (tt, tt)
 rising_push o (x ∷ xs) r above = (All-push (λ later. x.number < later.number) xs o r.0 above.0, rising_push o xs r.1 above.1)
 
@@ -66,14 +66,14 @@ rising_kept p (x ∷ xs) r =
     cond_both (p x) (x ∷ filter p xs) (filter p xs) Rising (λ e. (all_kept_by p (λ later. x.number < later.number) xs r.0, rest)) (λ e. rest)
 
 -- a cut changes no number
-above_left : (m shares : ℕ) (x : Order) (xs : List Order) → m < x.number → All (λ o. m < o.number) xs → All (λ o. m < o.number) (option_to_list (left_of shares x) ++ xs)
+above_left : (m shares : ℕ) (x : Order) (xs : List Order) → m < x.number → AllByRecursion (λ o. m < o.number) xs → AllByRecursion (λ o. m < o.number) (option_to_list (left_of shares x) ++ xs)
 above_left m shares x xs here later =
-    cond_both (leb x.shares shares) None _ (λ r. All (λ o. m < o.number) (option_to_list r ++ xs)) (λ e. later) (λ e. (here, later))
+    cond_both (leb x.shares shares) None _ (λ r. AllByRecursion (λ o. m < o.number) (option_to_list r ++ xs)) (λ e. later) (λ e. (here, later))
 
-above_cut : (m n shares : ℕ) (xs : List Order) → All (λ o. m < o.number) xs → All (λ o. m < o.number) (cut_down n shares xs)
+above_cut : (m n shares : ℕ) (xs : List Order) → AllByRecursion (λ o. m < o.number) xs → AllByRecursion (λ o. m < o.number) (cut_down n shares xs)
 above_cut m n shares [] h = tt
 above_cut m n shares (x ∷ xs) h =
-    cond_both (eqb x.number n) _ _ (All (λ o. m < o.number)) (λ e. above_left m shares x xs h.0 h.1) (λ e. (h.0, above_cut m n shares xs h.1))
+    cond_both (eqb x.number n) _ _ (AllByRecursion (λ o. m < o.number)) (λ e. above_left m shares x xs h.0 h.1) (λ e. (h.0, above_cut m n shares xs h.1))
 
 pub rising_cut : (n shares : ℕ) (xs : List Order) → Rising xs → Rising (cut_down n shares xs)
 rising_cut n shares [] r = tt

@@ -1,7 +1,7 @@
 -- The place of an order in its list, and what a change there leaves. Assumes nothing.
 use Rattle.std.proofs.Common.{◌≡◌, ℕ, ◌+◌, ◌<◌, Bool, true, false, cond, not, eqb, List, [], ◌∷◌, ◌++◌, length, set, is_some, Some, None, Option, sym, refl, ap, ◌∙◌, subst, ⊎_elim, one-add, arith}
 use Rattle.std.specs.Option.{option_to_list}
-use Rattle.std.specs.List.{remove, AllByRecursion as All}
+use Rattle.std.specs.List.{remove, AllByRecursion}
 use Rattle.std.proofs.lemmas.Bool.{both_ways, cases_lt, eqb-true}
 use Rattle.std.proofs.lemmas.Bool.Decides.{nat_tests}
 use Rattle.order.specs.declared.Order.{Order}
@@ -33,7 +33,7 @@ pub found_within : (xs : List Order) (k : ℕ) → is_some (nth xs k) ≡ true �
 found_within xs k e = ⊎_elim (λ lt. lt) (λ le. absurd (both_ways (is_some (nth xs k)) (ap is_some (nth_past xs k le)) e)) (cases_lt k (length xs))
 
 -- nothing else is dropped where all numbers are above
-all_stay : (n : ℕ) (xs : List Order) → All (λ o. n < o.number) xs → dropped n xs ≡ xs
+all_stay : (n : ℕ) (xs : List Order) → AllByRecursion (λ o. n < o.number) xs → dropped n xs ≡ xs
 all_stay n [] h = refl
 all_stay n (x ∷ xs) h =
     let ne : eqb x.number n ≡ false = grind (arith, nat_tests) in
@@ -45,7 +45,7 @@ dropped_at n [] r e = refl
 dropped_at n (x ∷ xs) r e = go (eqb x.number n) refl (dropped_at n xs r.1) e
   where
     go : (b : Bool) → eqb x.number n ≡ b → (is_some (order_of n xs) ≡ true → dropped n xs ≡ remove xs (place_of n xs)) → is_some (cond b (Some x) (order_of n xs)) ≡ true → cond (not b) (x ∷ dropped n xs) (dropped n xs) ≡ remove (x ∷ xs) (cond (not b) (1 + place_of n xs) 0)
-    go true is rest f = all_stay n xs (subst (λ m. All (λ o. m < o.number) xs) (eqb-true x.number n is) r.0)
+    go true is rest f = all_stay n xs (subst (λ m. AllByRecursion (λ o. m < o.number) xs) (eqb-true x.number n is) r.0)
     go false is rest f = ap (λ ys. x ∷ ys) (rest f) ∙ sym (later_place x xs (place_of n xs))
 
 -- cutting changes what stands at its place

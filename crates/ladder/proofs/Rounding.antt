@@ -1,6 +1,6 @@
 -- Rounding over any list of prices, and what it means on a rising one.
 use Rattle.std.proofs.Common.{◌≡◌, ℕ, ◌<◌, ◌≤◌, Bool, true, false, cond, eqb, leb, ◌⊎◌, List, [], ◌∷◌, ◌++◌, Some, None, Decides, Option, sym, refl, ap, ◌∙◌, subst, inl, inr, ⊎_elim, arith, nat_eq}
-use Rattle.std.specs.List.{AllByRecursion as All}
+use Rattle.std.specs.List.{AllByRecursion}
 use Rattle.std.specs.Option.{option_eq}
 use Rattle.std.proofs.lemmas.Bool.{le-leb, lt-leb, cases_lt, eqb-true, eq-eqb, or_cases, or_left, or_right, both_ways, false≢true}
 use Rattle.std.proofs.lemmas.Bool.Decides.{same_from_decides}
@@ -37,17 +37,17 @@ lowest_append n (x ∷ xs) ys =
     ∙ cond_or_else (leb n x) x (lowest_at_or_above n xs) (lowest_at_or_above n ys)
 
 -- prices above n give nothing at or below it
-pub none_at_or_below : (n : ℕ) (xs : List ℕ) → All (λ q. n < q) xs → highest_at_or_below n xs ≡ None
+pub none_at_or_below : (n : ℕ) (xs : List ℕ) → AllByRecursion (λ q. n < q) xs → highest_at_or_below n xs ≡ None
 none_at_or_below n [] above = refl
 none_at_or_below n (x ∷ xs) above = rw (none_at_or_below n xs above.1, lt-leb x n above.0)
 
 -- prices below n give nothing at or above it
-pub none_at_or_above : (n : ℕ) (xs : List ℕ) → All (λ q. q < n) xs → lowest_at_or_above n xs ≡ None
+pub none_at_or_above : (n : ℕ) (xs : List ℕ) → AllByRecursion (λ q. q < n) xs → lowest_at_or_above n xs ≡ None
 none_at_or_above n [] below = refl
 none_at_or_above n (x ∷ xs) below = rw (none_at_or_above n xs below.1, lt-leb n x below.0)
 
 -- past the top, every number rounds down alike
-pub same_past_top : (m n : ℕ) (xs : List ℕ) → m ≤ n → All (λ q. q ≤ m) xs → highest_at_or_below n xs ≡ highest_at_or_below m xs
+pub same_past_top : (m n : ℕ) (xs : List ℕ) → m ≤ n → AllByRecursion (λ q. q ≤ m) xs → highest_at_or_below n xs ≡ highest_at_or_below m xs
 same_past_top m n [] more below = refl
 same_past_top m n (x ∷ xs) more below =
     let past : x ≤ n = omega (arith, below.0) in
@@ -64,7 +64,7 @@ legal_rest : (q x : ℕ) (xs : List ℕ) → Legal q xs → Legal q (x ∷ xs)
 legal_rest q x xs h = or_right (eqb q x) (legal q xs) h
 
 -- what holds of every price holds of a legal one
-pub legal_all : (P : ℕ → Type 0) (q : ℕ) (xs : List ℕ) → All P xs → Legal q xs → P q
+pub legal_all : (P : ℕ → Type 0) (q : ℕ) (xs : List ℕ) → AllByRecursion P xs → Legal q xs → P q
 legal_all P q [] all h = absurd (false≢true h)
 legal_all P q (x ∷ xs) all h = elim (legal_cases q x xs h) [ inl e ↦ subst P (sym e) all.0 | inr r ↦ legal_all P q xs all.1 r ]
 
@@ -74,7 +74,7 @@ Lower n xs None = (q : ℕ) → Legal q xs → n < q
 Lower n xs (Some p) = Legal p xs × (p ≤ n) × ((q : ℕ) → Legal q xs → p < q → n < q)
 
 -- one more price before a list: the list's answer stands, or else the price is tried
-lower_more : (n x : ℕ) (xs : List ℕ) (o : Option ℕ) → All (λ q. x < q) xs → Lower n xs o → Lower n (x ∷ xs) (or_else o (cond (leb x n) (Some x) None))
+lower_more : (n x : ℕ) (xs : List ℕ) (o : Option ℕ) → AllByRecursion (λ q. x < q) xs → Lower n xs o → Lower n (x ∷ xs) (or_else o (cond (leb x n) (Some x) None))
 lower_more n x xs (Some p) above h =
     let higher : x < p = legal_all (λ q. x < q) p xs above h.0 in (
       legal_rest p x xs h.0,

@@ -1,7 +1,7 @@
 -- Rounding within one run of prices a step apart.
 use Rattle.std.proofs.Common.{◌≡◌, ℕ, zero, suc, ◌+◌, ◌-◌, ◌*◌, ◌%◌, ◌<◌, ◌≤◌, cond, eqb, List, [], ◌∷◌, ◌++◌, Some, sym, ap, ◌∙◌, inl, inr, mod-eq_of_lt, mul-suc, arith}
 use native.Mathlib.Nat.{mod-eq-sub-mod, zero-mod}
-use Rattle.std.specs.List.{AllByRecursion as All}
+use Rattle.std.specs.List.{AllByRecursion}
 use Rattle.std.proofs.ByRecursion.{All-weaker}
 use Rattle.std.proofs.lemmas.Bool.{le-leb, lt-leb, cases_lt, eq-eqb, ne_eqb}
 use Rattle.ladder.specs.Bands.{band}
@@ -28,7 +28,7 @@ run_down n a d (suc k) pos low high =
     elim (cases_lt n (a + d)) [
       | inl lt ↦
           let first : a ≡ n - (n - a) % d = omega (arith, remainder_first n a d lt low) in
-          let above : All (λ q. n < q) (prices_from (a + d) d k)
+          let above : AllByRecursion (λ q. n < q) (prices_from (a + d) d k)
           = All-weaker (λ q. a + d ≤ q) (λ q. n < q) (λ q h. omega arith) (prices_from (a + d) d k) (run_above (a + d) d k) in
           rw (none_at_or_below n (prices_from (a + d) d k) above, le-leb a n low) (ap Some first)
       | inr le ↦

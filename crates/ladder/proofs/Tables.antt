@@ -1,6 +1,6 @@
 -- Rounding over the prices of any sound table of bands.
 use Rattle.std.proofs.Common.{◌≡◌, ℕ, ◌+◌, ◌-◌, ◌*◌, ◌%◌, ◌<◌, ◌≤◌, min, max, true, List, [], ◌∷◌, ◌++◌, length, get_or, drop, Some, None, Option, sym, refl, ap, ◌∙◌, subst, inl, inr, arith}
-use Rattle.std.specs.List.{AllByRecursion as All}
+use Rattle.std.specs.List.{AllByRecursion}
 use Rattle.std.proofs.ByRecursion.{All-weaker}
 use Rattle.std.proofs.lemmas.List.{at_drop_more}
 use Rattle.std.proofs.lemmas.Bool.{le-leb, lt-leb, cases_lt}
@@ -48,7 +48,7 @@ or_else_absent o p h = rw h
 -- rounding down below a band's end
 band_down : (b : Band) (rest : List Band) (last n : ℕ) → First b rest last → b.start ≤ n → n < end_before rest last → highest_at_or_below n (prices_of (b ∷ rest) last) ≡ Some (rounded_down b n)
 band_down b rest last n f low lt =
-    let above : All (λ q. n < q) (prices_of rest last)
+    let above : AllByRecursion (λ q. n < q) (prices_of rest last)
     = All-weaker (λ q. end_before rest last ≤ q) (λ q. n < q) (λ q h. omega arith) (prices_of rest last) (table_above rest last f.rest_sound) in
     let within : n < b.start + b.step * count b (end_before rest last) = omega (arith, f.whole_steps) in
     highest_append n (run b rest last) (prices_of rest last)
@@ -94,7 +94,7 @@ band_up b rest last n f low le =
 -- rounding up from a band's end on
 past_up : (b : Band) (rest : List Band) (last n : ℕ) → First b rest last → end_before rest last ≤ n → lowest_at_or_above n (prices_of (b ∷ rest) last) ≡ lowest_at_or_above n (prices_of rest last)
 past_up b rest last n f le =
-    let below : All (λ q. q < n) (run b rest last)
+    let below : AllByRecursion (λ q. q < n) (run b rest last)
     = All-weaker (λ q. q < end_before rest last) (λ q. q < n) (λ q h. omega arith) (run b rest last) (band_below b rest last f) in
     lowest_append n (run b rest last) (prices_of rest last)
     ∙ or_else_absent (lowest_at_or_above n (run b rest last)) (lowest_at_or_above n (prices_of rest last)) (none_at_or_above n (run b rest last) below)

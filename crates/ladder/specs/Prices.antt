@@ -1,11 +1,11 @@
 -- What a price ladder is: a rising list of legal prices, in thousandths of a dollar.
 use Rattle.std.specs.Prelude.{ℕ, zero, suc, ◌+◌, ◌<◌, ◌≤◌, min, max, Bool, false, cond, ◌||◌, List, [], ◌∷◌, length, Some, None, Option, ◌==◌, nat_le}
-use Rattle.std.specs.List.{AllByRecursion as All}
+use Rattle.std.specs.List.{AllByRecursion}
 
 -- each price is below all that follow it
 abbrev pub Rising : List ℕ → Type 0
 Rising [] = Unit {0}
-Rising (p ∷ ps) = All (λ q. p < q) ps × Rising ps
+Rising (p ∷ ps) = AllByRecursion (λ q. p < q) ps × Rising ps
 
 -- no legal price is above this
 abbrev pub price_limit : ℕ
@@ -15,7 +15,7 @@ price_limit = 10_000_000
 pub record Lawful (prices : List ℕ) : Type 0 where
   pub rising : Rising prices
   pub never_empty : 0 < length prices
-  pub within : All (λ p. (1 ≤ p) × (p ≤ price_limit)) prices
+  pub within : AllByRecursion (λ p. (1 ≤ p) × (p ≤ price_limit)) prices
 
 -- the price stands in the list
 abbrev pub legal : ℕ → List ℕ → Bool

@@ -3,7 +3,7 @@
 use Rattle.std.specs.Prelude.{◌≡◌, ℕ, zero, suc, ◌+◌, ◌-◌, ◌*◌, ◌/◌, ◌%◌, ◌<◌, ◌≤◌, Bool, true, ◌&&◌, List, [], ◌∷◌, ◌++◌, length, ◌==◌, nat_le, nat_lt, refl}
 use Rattle.std.proofs.Common.{sym, ap, ◌∙◌, subst, mul-suc, mul-le-mul, arith, lit≤}
 use Rattle.std.proofs.Math.Nat.{div-add-mod, mul-div_cancel_left, mul-mod_right}
-use Rattle.std.specs.List.{AllByRecursion as All}
+use Rattle.std.specs.List.{AllByRecursion}
 use Rattle.std.proofs.ByRecursion.{All-weaker, All-append}
 use Rattle.std.proofs.lemmas.Bool.{le-leb, lt-ltb, ltb-true, leb-true, eqb-true, eq-eqb, and_parts}
 use Rattle.ladder.specs.Bands.{band, end_before, prices_of, first_band, higher_bands, last_price, banded_prices}
@@ -11,12 +11,12 @@ use Rattle.ladder.specs.Prices.{Rising, Lawful, price_limit, prices_from, even_p
 use Rattle.ladder.specs.declared.Band.{Band}
 
 -- a run's prices are at or above its start
-pub run_above : (a d k : ℕ) → All (λ q. a ≤ q) (prices_from a d k)
+pub run_above : (a d k : ℕ) → AllByRecursion (λ q. a ≤ q) (prices_from a d k)
 run_above a d zero = tt
 run_above a d (suc k) = (omega arith, All-weaker (λ q. a + d ≤ q) (λ q. a ≤ q) (λ q h. omega arith) (prices_from (a + d) d k) (run_above (a + d) d k))
 
 -- a run's prices are below the price that would follow it
-pub run_below : (a d k : ℕ) → 0 < d → All (λ q. q < a + d * k) (prices_from a d k)
+pub run_below : (a d k : ℕ) → 0 < d → AllByRecursion (λ q. q < a + d * k) (prices_from a d k)
 run_below a d zero pos = tt
 run_below a d (suc k) pos = (
   omega (arith, mul-suc d k),
@@ -86,7 +86,7 @@ first b rest last h =
     }
 
 -- the table's prices are at or above its first start
-pub table_above : (bs : List Band) (last : ℕ) → sound bs last ≡ true → All (λ q. end_before bs last ≤ q) (prices_of bs last)
+pub table_above : (bs : List Band) (last : ℕ) → sound bs last ≡ true → AllByRecursion (λ q. end_before bs last ≤ q) (prices_of bs last)
 table_above [] last ok = (omega arith, tt)
 table_above (b ∷ rest) last ok =
     let f = first b rest last ok in
@@ -95,9 +95,9 @@ table_above (b ∷ rest) last ok =
     (All-weaker (λ q. end_before rest last ≤ q) (λ q. b.start ≤ q) (λ q h. omega (arith, f.start_below)) (prices_of rest last) (table_above rest last f.rest_sound))
 
 -- a band's prices are below its end
-pub band_below : (b : Band) (rest : List Band) (last : ℕ) → First b rest last → All (λ q. q < end_before rest last) (run b rest last)
+pub band_below : (b : Band) (rest : List Band) (last : ℕ) → First b rest last → AllByRecursion (λ q. q < end_before rest last) (run b rest last)
 band_below b rest last f =
-    subst (λ (e : ℕ). All (λ q. q < e) (run b rest last)) (sym f.whole_steps)
+    subst (λ (e : ℕ). AllByRecursion (λ q. q < e) (run b rest last)) (sym f.whole_steps)
     (run_below b.start b.step (count b (end_before rest last)) f.step_positive)
 
 -- the first start is at or below the last price
@@ -108,7 +108,7 @@ start_low (b ∷ rest) last ok =
     omega (arith, f.start_below, start_low rest last f.rest_sound)
 
 -- the table's prices are at or below its last price
-pub table_below : (bs : List Band) (last : ℕ) → sound bs last ≡ true → All (λ q. q ≤ last) (prices_of bs last)
+pub table_below : (bs : List Band) (last : ℕ) → sound bs last ≡ true → AllByRecursion (λ q. q ≤ last) (prices_of bs last)
 table_below [] last ok = (omega arith, tt)
 table_below (b ∷ rest) last ok =
     let f = first b rest last ok in
@@ -118,7 +118,7 @@ table_below (b ∷ rest) last ok =
     (table_below rest last f.rest_sound)
 
 -- two rising lists rise in a row, if e lies above the first and not above the second
-rising_append : (e : ℕ) (xs ys : List ℕ) → Rising xs → Rising ys → All (λ q. q < e) xs → All (λ q. e ≤ q) ys → Rising (xs ++ ys)
+rising_append : (e : ℕ) (xs ys : List ℕ) → Rising xs → Rising ys → AllByRecursion (λ q. q < e) xs → AllByRecursion (λ q. e ≤ q) ys → Rising (xs ++ ys)
 rising_append e [] ys rx ry below above = ry
 rising_append e (x ∷ xs) ys rx ry below above = (
   All-append (λ q. x < q) xs ys rx.0 (All-weaker (λ q. e ≤ q) (λ q. x < q) (λ q h. omega (arith, below.0)) ys above),
@@ -143,7 +143,7 @@ table_starts (b ∷ rest) last ok =
     (r.0, ap (λ ps. run b rest last ++ ps) s.1 ∙ r.1)
 
 -- two facts of every price, as one
-pub all_both : (P Q : ℕ → Type 0) (xs : List ℕ) → All P xs → All Q xs → All (λ q. P q × Q q) xs
+pub all_both : (P Q : ℕ → Type 0) (xs : List ℕ) → AllByRecursion P xs → AllByRecursion Q xs → AllByRecursion (λ q. P q × Q q) xs
 all_both P Q [] p q = tt
 all_both P Q (x ∷ xs) p q = ((p.0, q.0), all_both P Q xs p.1 q.1)
 

@@ -1,6 +1,6 @@
 -- A price stands once in a rising list that has it. Assumes nothing.
 use Rattle.std.proofs.Common.{◌≡◌, ℕ, ◌+◌, ◌<◌, Bool, true, false, cond, eqb, List, [], ◌∷◌, map, count_by, sym, refl, ap, ◌∙◌, inl, inr, arith}
-use Rattle.std.specs.List.{ContainsAt as Has, AllByRecursion as All}
+use Rattle.std.specs.List.{ContainsAt as Has, AllByRecursion}
 use Rattle.std.proofs.ByRecursion.{All-weaker, all-has}
 use Rattle.std.proofs.lemmas.List.Sums.{sum_by-cons}
 use Rattle.std.proofs.lemmas.Bool.{eq-eqb, ne_eqb}
@@ -16,7 +16,7 @@ count_map f t u same [] = refl
 count_map f t u same (x ∷ xs) =
     count_cons t (f x) (map f xs) (u x) (same x) ∙ ap (λ n. cond (u x) 1 0 + n) (count_map f t u same xs) ∙ sym (count_cons u x xs (u x) refl)
 
-none_below : (q : ℕ) (ps : List ℕ) → All (λ p. q < p) ps → count_by (λ p. eqb p q) ps ≡ 0
+none_below : (q : ℕ) (ps : List ℕ) → AllByRecursion (λ p. q < p) ps → count_by (λ p. eqb p q) ps ≡ 0
 none_below q [] all = refl
 none_below q (p ∷ ps) all =
     let rest = none_below q ps all.1 in
