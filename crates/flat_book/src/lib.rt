@@ -12,8 +12,6 @@ use order::{Order, Side, first_ranked};
 
 mod flat;
 
-use book::Book;
-
 // Rows of orders, the taken ones in front. A row that is not taken holds anything.
 #[derive(Drop)]
 struct Rows<'a> {
