@@ -1,7 +1,7 @@
 -- The auction price is the best, by any distance of the third rule. Assumes nothing.
-use Rattle.std.proofs.Common.{◌≡◌, ℕ, ◌≤◌, List, Some, None, Option, sym, ap, subst, inl, arith}
+use Rattle.std.proofs.Common.{◌≡◌, ℕ, ◌≤◌, List, Some, None, Option, sym, refl, ap, subst, inl, arith}
 use Rattle.std.specs.Option.{option_map}
-use Rattle.std.specs.List.{ContainsAt as Has}
+use Rattle.std.specs.List.{Contains}
 use Rattle.std.proofs.lemmas.Bool.{true≢false}
 use Rattle.rank.specs.Ranked.{first_of, IsFirst}
 use Rattle.rank.proofs.Firsts.{first_leads}
@@ -12,7 +12,7 @@ use Rattle.price_rows.specs.Rows.{rows_of}
 use Rattle.auction.specs.Rules.{settled, row_ahead, row_key, struck_row, priced, auction_price}
 use Rattle.price_rows.specs.Reach.{surplus, Names, Reaches, Spans}
 use Rattle.auction.specs.Laws.{Best, BestPrice}
-use Rattle.price_rows.proofs.Members.{map_has, has_map}
+use Rattle.price_rows.proofs.Members.{Contains-from_map, Contains-map}
 use Rattle.auction.proofs.Chosen.{any_row, Tops, leads_tops, chosen_none, chosen_some}
 use Rattle.auction.specs.PriceLaws.{price_lawful}
 use Rattle.auction.proofs.Deciding.{row_is, same_row}
@@ -20,16 +20,16 @@ use Rattle.price_rows.proofs.Reaching.{candidate_from, candidate_to}
 use Rattle.price_rows.proofs.Climb.{higher}
 
 module _ (os : List Order) where
-  pub row_has : (p : ℕ) → Spans os p → Names os p → Has (rows_of os) (row_at os p)
-  row_has p s n = has_map (row_at os) (candidates os) p (candidate_to os p s n)
+  pub row_has : (p : ℕ) → Spans os p → Names os p → Contains (rows_of os) (row_at os p)
+  row_has p s n = Contains-map (row_at os) (candidates os) p (candidate_to os p s n)
 
-  pub row_price : (r : PriceRow) → Has (rows_of os) r → Has (candidates os) r.price
+  pub row_price : (r : PriceRow) → Contains (rows_of os) r → Contains (candidates os) r.price
   row_price r h =
-      let m = map_has (row_at os) (candidates os) r h in
-      subst (Has (candidates os)) (ap (λ x. x.price) m.2) m.1
+      let m = Contains-from_map (row_at os) (candidates os) r h in
+      subst (Contains (candidates os)) (ap (λ x. x.price) m.2) m.1
 
   -- where there is no row, no limit buy reaches a limit sell
-  none_reaches : ((r : PriceRow) → Has (rows_of os) r → ⊥) → Reaches os → ⊥
+  none_reaches : ((r : PriceRow) → Contains (rows_of os) r → ⊥) → Reaches os → ⊥
   none_reaches none r =
       let s : Spans os r.buy = record { buy = r.buy; sell = r.sell; buys = r.buys; sells = r.sells; above = r.reach; below = omega arith } in
       none (row_at os r.buy) (row_has r.buy s (inl r.buys))
@@ -50,7 +50,7 @@ module _ (os : List Order) where
       }
 
   module _ (distance : ℕ → ℕ → ℕ) (close : Option ℕ) where
-    itself : (r : PriceRow) → Has (rows_of os) r → Has (rows_of os) r
+    itself : (r : PriceRow) → Contains (rows_of os) r → Contains (rows_of os) r
     itself r h = h
 
     struck_best : (first : Option PriceRow) → IsFirst any_row (row_ahead distance (settled close os)) (rows_of os) first → BestPrice os (auction_price distance close os)
@@ -64,4 +64,4 @@ module _ (os : List Order) where
     pub best_price : BestPrice os (auction_price distance close os)
     best_price =
         struck_best (first_of any_row (row_ahead distance (settled close os)) (rows_of os))
-        (first_leads any_row (row_ahead distance (settled close os)) row_key (price_lawful distance (settled close os)) (rows_of os))
+        (first_leads any_row (row_ahead distance (settled close os)) row_key (price_lawful distance (settled close os)) (rows_of os) _ refl)

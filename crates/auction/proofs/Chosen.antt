@@ -1,16 +1,16 @@
 -- The first by price rank is what the three rules leave. Assumes nothing.
 use Rattle.std.specs.Prelude.{◌≡◌, ℕ, ◌≤◌, Bool, true, false, not, ◌&&◌, ◌||◌, List, Some, None, ◌==◌, refl}
 use Rattle.std.proofs.Common.{sym, ap, ◌∙◌, arith}
-use Rattle.std.specs.List.{ContainsAt as Has}
+use Rattle.std.specs.List.{Contains, list_all}
 use Rattle.std.proofs.lemmas.Bool.{true≢false, le-ltb, ltb-false, eqb-true}
 use Rattle.std.proofs.lemmas.Bool.Decides.{nat_tests}
 use Rattle.rank.specs.Ranked.{NoneCounts, Leads}
 use Rattle.price_rows.specs.declared.PriceRow.{PriceRow}
 use Rattle.auction.specs.declared.ThirdRule.{ThirdRule}
 use Rattle.price_rows.specs.Amounts.{matched_in, surplus_in}
-use Rattle.auction.specs.Rules.{every, unbeaten, first_left, matches_more, leaves_less, left_by_two, wins_third, row_ahead, at_ties}
+use Rattle.auction.specs.Rules.{unbeaten, first_left, matches_more, leaves_less, left_by_two, wins_third, row_ahead, at_ties}
 use Rattle.auction.specs.PriceLaws.{behind, same_price}
-use Rattle.auction.proofs.Unbeaten.{every_at, every_all, unbeaten_has, has_unbeaten, first_left_none, first_left_some}
+use Rattle.auction.proofs.Unbeaten.{all_contained, all_from_contained, unbeaten_has, has_unbeaten, first_left_none, first_left_some}
 
 -- every row counts
 abbrev pub any_row : PriceRow → Bool
@@ -18,16 +18,16 @@ any_row row = true
 
 -- `x` matches most of the rows, and of those that match as many it leaves least
 pub record Tops (rows : List PriceRow) (x : PriceRow) : Type 0 where
-  pub listed : Has rows x
-  pub most : (y : PriceRow) → Has rows y → matched_in y ≤ matched_in x
-  pub least : (y : PriceRow) → Has rows y → matched_in y ≡ matched_in x → surplus_in x ≤ surplus_in y
+  pub listed : Contains rows x
+  pub most : (y : PriceRow) → Contains rows y → matched_in y ≤ matched_in x
+  pub least : (y : PriceRow) → Contains rows y → matched_in y ≡ matched_in x → surplus_in x ≤ surplus_in y
 
 module _ (distance : ℕ → ℕ → ℕ) (third : ThirdRule) where
-  pub leads_behind : (rows : List PriceRow) (x y : PriceRow) → Leads any_row (row_ahead distance third) rows x → Has rows y → (matched_in y ≤ matched_in x) × (matched_in y ≡ matched_in x → surplus_in x ≤ surplus_in y) × (matched_in y ≡ matched_in x → surplus_in y ≡ surplus_in x → wins_third distance third y x ≡ false)
+  pub leads_behind : (rows : List PriceRow) (x y : PriceRow) → Leads any_row (row_ahead distance third) rows x → Contains rows y → (matched_in y ≤ matched_in x) × (matched_in y ≡ matched_in x → surplus_in x ≤ surplus_in y) × (matched_in y ≡ matched_in x → surplus_in y ≡ surplus_in x → wins_third distance third y x ≡ false)
   leads_behind rows x y leads h = behind (matched_in y) (matched_in x) (surplus_in y) (surplus_in x) (wins_third distance third y x) (leads.unbeaten y h refl)
 
   -- who leads by price rank tops the rows, in any list of the same rows
-  pub leads_tops : (rows others : List PriceRow) (x : PriceRow) → ((y : PriceRow) → Has others y → Has rows y) → Has others x → Leads any_row (row_ahead distance third) rows x → Tops others x
+  pub leads_tops : (rows others : List PriceRow) (x : PriceRow) → ((y : PriceRow) → Contains others y → Contains rows y) → Contains others x → Leads any_row (row_ahead distance third) rows x → Tops others x
   leads_tops rows others x back h leads =
       record {
         listed = h;
@@ -36,11 +36,11 @@ module _ (distance : ℕ → ℕ → ℕ) (third : ThirdRule) where
       }
 
 module _ (rows : List PriceRow) (x : PriceRow) (tops : Tops rows x) where
-  most_has : Has (unbeaten matches_more rows) x
+  most_has : Contains (unbeaten matches_more rows) x
   most_has = has_unbeaten matches_more rows x tops.listed (λ y m. le-ltb (matched_in x) (matched_in y) (tops.most y m))
 
   -- what the first two rules leave matches as many as `x` and leaves as much
-  pub left_ties : (r : PriceRow) → Has (left_by_two rows) r → Has rows r × (matched_in r ≡ matched_in x) × (surplus_in r ≡ surplus_in x)
+  pub left_ties : (r : PriceRow) → Contains (left_by_two rows) r → Contains rows r × (matched_in r ≡ matched_in x) × (surplus_in r ≡ surplus_in x)
   left_ties r h =
       let two = unbeaten_has leaves_less (unbeaten matches_more rows) r h in
       let one = unbeaten_has matches_more rows r two.0 in
@@ -52,7 +52,7 @@ module _ (rows : List PriceRow) (x : PriceRow) (tops : Tops rows x) where
       let s : surplus_in r ≡ surplus_in x = omega arith in
       (one.0, m, s)
 
-  pub ties_left : (r : PriceRow) → Has rows r → matched_in r ≡ matched_in x → surplus_in r ≡ surplus_in x → Has (left_by_two rows) r
+  pub ties_left : (r : PriceRow) → Contains rows r → matched_in r ≡ matched_in x → surplus_in r ≡ surplus_in x → Contains (left_by_two rows) r
   ties_left r h m s =
       has_unbeaten leaves_less (unbeaten matches_more rows) r
       (has_unbeaten matches_more rows r h (λ y k. let t = tops.most y k in le-ltb (matched_in r) (matched_in y) (omega arith)))
@@ -74,18 +74,18 @@ at_ties_tied : (test : PriceRow → Bool) (b r : PriceRow) → at_ties test b r 
 at_ties_tied test b r e m s = grind (arith, nat_tests)
 
 -- `rows` and `others` hold the same rows
-module _ (rows others : List PriceRow) (to : (r : PriceRow) → Has rows r → Has others r) (back : (r : PriceRow) → Has others r → Has rows r) where
+module _ (rows others : List PriceRow) (to : (r : PriceRow) → Contains rows r → Contains others r) (back : (r : PriceRow) → Contains others r → Contains rows r) where
   -- a test of all that the first two rules leave is one of the rows that tie with one that tops them
-  pub every_left : (test : PriceRow → Bool) (b : PriceRow) → Tops others b → every test (left_by_two others) ≡ every (at_ties test b) rows
-  every_left test b tops =
-      same_bool (every test (left_by_two others)) (every (at_ties test b) rows)
-      (λ e. every_all (at_ties test b) rows (λ r h. go r h e (matched_in r == matched_in b) (surplus_in r == surplus_in b) refl refl))
-      (λ e. every_all test (left_by_two others) (λ r h.
+  pub all_left : (test : PriceRow → Bool) (b : PriceRow) → Tops others b → list_all test (left_by_two others) ≡ list_all (at_ties test b) rows
+  all_left test b tops =
+      same_bool (list_all test (left_by_two others)) (list_all (at_ties test b) rows)
+      (λ e. all_from_contained (at_ties test b) rows (λ r h. go r h e (matched_in r == matched_in b) (surplus_in r == surplus_in b) refl refl))
+      (λ e. all_from_contained test (left_by_two others) (λ r h.
       let t = left_ties others b tops r h in
-      at_ties_tied test b r (every_at (at_ties test b) rows e r (back r t.0)) t.1 t.2))
+      at_ties_tied test b r (all_contained (at_ties test b) rows e r (back r t.0)) t.1 t.2))
     where
-      go : (r : PriceRow) → Has rows r → every test (left_by_two others) ≡ true → (c d : Bool) → (matched_in r == matched_in b) ≡ c → (surplus_in r == surplus_in b) ≡ d → (not (c && d) || test r) ≡ true
-      go r h e true true f g = every_at test (left_by_two others) e r (ties_left others b tops r (to r h) (eqb-true (matched_in r) (matched_in b) f) (eqb-true (surplus_in r) (surplus_in b) g))
+      go : (r : PriceRow) → Contains rows r → list_all test (left_by_two others) ≡ true → (c d : Bool) → (matched_in r == matched_in b) ≡ c → (surplus_in r == surplus_in b) ≡ d → (not (c && d) || test r) ≡ true
+      go r h e true true f g = all_contained test (left_by_two others) e r (ties_left others b tops r (to r h) (eqb-true (matched_in r) (matched_in b) f) (eqb-true (surplus_in r) (surplus_in b) g))
       go r h e true false f g = refl
       go r h e false d f g = refl
 
@@ -102,7 +102,7 @@ module _ (rows others : List PriceRow) (to : (r : PriceRow) → Has rows r → H
         let one = (unbeaten_has matches_more others r two).0 in
         true≢false (none r (back r one)))
 
-    pub chosen_some : (x : PriceRow) → ((a b : PriceRow) → Has others a → Has others b → a.price ≡ b.price → a ≡ b) → Leads any_row (row_ahead distance third) rows x → first_left final ≡ Some x
+    pub chosen_some : (x : PriceRow) → ((a b : PriceRow) → Contains others a → Contains others b → a.price ≡ b.price → a ≡ b) → Leads any_row (row_ahead distance third) rows x → first_left final ≡ Some x
     chosen_some x same_row leads =
         let tops = leads_tops distance third rows others x back (to x leads.listed) leads in
         let x_left = ties_left others x tops x tops.listed refl refl in

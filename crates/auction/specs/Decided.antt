@@ -8,7 +8,7 @@ use Rattle.auction.specs.declared.Decision.{Decision}
 use Rattle.auction.specs.declared.AuctionPrice.{AuctionPrice}
 use Rattle.price_rows.specs.declared.AuctionError.{AuctionError}
 use Rattle.price_rows.specs.declared.AuctionError.TheVariants.{TooManyOrders}
-use Rattle.auction.specs.Rules.{thousandths, settled, struck_row, priced, auction_price}
+use Rattle.auction.specs.Rules.{thousandths, settled, struck_row, auction_price}
 
 -- the struck row with the case of the third rule
 abbrev pub by_case : ThirdRule → PriceRow → Decision
@@ -17,10 +17,6 @@ by_case third row = record { row = row; third = third }
 -- the decision on these orders; none where there is no candidate
 abbrev pub decision : Option ℕ → List Order → Option Decision
 decision close orders = option_map (by_case (settled close orders)) (struck_row thousandths close orders)
-
--- the price of a decision
-abbrev pub priced_by : Option Decision → Option AuctionPrice
-priced_by decided = option_map (λ d. priced d.row) decided
 
 -- the answer where there are at most 512 orders, else the refusal
 abbrev pub for_few : {X : Type 0} → List Order → X → Result X AuctionError

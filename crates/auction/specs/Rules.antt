@@ -1,6 +1,7 @@
 -- The three rules of the auction price. Assumes nothing.
-use Rattle.std.specs.Prelude.{ℕ, ◌+◌, ◌-◌, Bool, true, cond, not, ◌&&◌, ◌||◌, List, [], ◌∷◌, Some, None, filter, Option, ◌==◌, nat_lt}
+use Rattle.std.specs.Prelude.{ℕ, ◌+◌, ◌-◌, Bool, cond, not, ◌&&◌, ◌||◌, List, [], ◌∷◌, Some, None, filter, Option, ◌==◌, nat_lt}
 use Rattle.std.specs.Option.{option_map}
+use Rattle.std.specs.List.{list_all}
 use Rattle.order.specs.declared.Side.{Side}
 use Rattle.order.specs.declared.Side.TheVariants.{Buy, Sell}
 use Rattle.order.specs.declared.Order.{Order}
@@ -11,14 +12,9 @@ use Rattle.auction.specs.declared.AuctionPrice.{AuctionPrice}
 use Rattle.price_rows.specs.Amounts.{matched_in, surplus_in}
 use Rattle.price_rows.specs.Rows.{rows_of}
 
--- the test holds of all of the list
-abbrev pub every : {X : Type 0} → (X → Bool) → List X → Bool
-every test [] = true
-every test (x ∷ xs) = test x && every test xs
-
 -- those of the list that none of it beats
 abbrev pub unbeaten : {X : Type 0} → (X → X → Bool) → List X → List X
-unbeaten beats xs = filter (λ x. every (λ y. not (beats y x)) xs) xs
+unbeaten beats xs = filter (λ x. list_all (λ y. not (beats y x)) xs) xs
 
 -- the first of what is left
 abbrev pub first_left : {X : Type 0} → List X → Option X
@@ -47,7 +43,7 @@ by_closing_price None = NoClosingPrice
 -- demand at each, or neither
 abbrev pub third_rule : Option ℕ → List PriceRow → ThirdRule
 third_rule close rows =
-    cond (every (exceeds Buy) rows) DemandExceeds (cond (every (exceeds Sell) rows) SupplyExceeds (by_closing_price close))
+    cond (list_all (exceeds Buy) rows) DemandExceeds (cond (list_all (exceeds Sell) rows) SupplyExceeds (by_closing_price close))
 
 -- the distance between two prices, in thousandths
 abbrev pub thousandths : ℕ → ℕ → ℕ
@@ -106,4 +102,4 @@ at_ties test b row = not (ties row b) || test row
 -- the third rule's case, told by the rows that tie with `best`
 abbrev pub third_at_ties : Option ℕ → PriceRow → List PriceRow → ThirdRule
 third_at_ties close best rows =
-    cond (every (at_ties (exceeds Buy) best) rows) DemandExceeds (cond (every (at_ties (exceeds Sell) best) rows) SupplyExceeds (by_closing_price close))
+    cond (list_all (at_ties (exceeds Buy) best) rows) DemandExceeds (cond (list_all (at_ties (exceeds Sell) best) rows) SupplyExceeds (by_closing_price close))

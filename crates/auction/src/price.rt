@@ -1,18 +1,19 @@
 // The price rank, and the auction price by it.
 ghost use Rattle.std.specs.Prelude.{◌≡◌, true, List, IfOk};
-ghost use Rattle.auction.specs.Rules.{every, exceeds, ties, at_ties, by_closing_price, third_at_ties, thousandths, preferred, row_ahead, row_key};
+ghost use Rattle.std.specs.List.{list_all};
+ghost use Rattle.auction.specs.Rules.{exceeds, ties, at_ties, by_closing_price, third_at_ties, thousandths, priced, preferred, row_ahead, row_key};
 ghost use Rattle.price_rows.specs.Rows.{entry_rows};
-ghost use Rattle.auction.specs.Decided.{decision, priced_by, decision_answer, price_answer};
+ghost use Rattle.auction.specs.Decided.{decision, decision_answer, price_answer};
 ghost use Rattle.auction.specs.Laws.{BestPrice};
 ghost use Rattle.auction.specs.PriceLaws.{price_lawful};
 
 use super::{AuctionPrice, Decision, ThirdRule};
 use order::{Order, Side};
-use price_rows::{AuctionError, MOST_ORDERS, PriceRow, entry_rows};
+use price_rows::{AuctionError, PriceRow, entry_rows};
 use rank::{Rank, first};
 
 impl ThirdRule {
-    // Whether p is taken before q.
+    // Whether p is taken before q: no `Ord` of prices, since the case turns the order.
     fn prefers(self, p: u32, q: u32) -> bool
         ensures { result ≡ preferred thousandths self p q }
     {
@@ -31,10 +32,7 @@ impl ThirdRule {
     fn by_closing_price(close: Option<u32>) -> ThirdRule
         ensures { result ≡ by_closing_price close }
     {
-        match close {
-            Some(close) => ThirdRule::ClosestTo(close),
-            None => ThirdRule::NoClosingPrice,
-        }
+        close.map_or(ThirdRule::NoClosingPrice, ThirdRule::ClosestTo)
     }
 }
 
@@ -57,6 +55,7 @@ impl Rank<PriceRow> for PriceRank {
         true
     }
 
+    // no `Ord`: the case of the third rule decides
     fn is_ahead(&self, a: &PriceRow, b: &PriceRow) -> bool {
         if a.matched() != b.matched() {
             return b.matched() < a.matched();
@@ -82,7 +81,7 @@ fn side_exceeds(row: &PriceRow, side: Side) -> bool
 fn rows_tie(a: &PriceRow, b: &PriceRow) -> bool
     ensures { result ≡ ties a.now b.now }
 {
-    a.matched() == b.matched() && a.surplus() == b.surplus()
+    (a.matched(), a.surplus()) == (b.matched(), b.surplus())
 }
 
 // Whether this side exceeds the other, if the row ties with the best.
@@ -94,13 +93,9 @@ fn exceeds_if_tied(row: &PriceRow, side: Side, best: &PriceRow) -> bool
 
 // Whether this side exceeds the other at each row that ties with the best.
 fn exceeds_at_each(side: Side, best: &PriceRow, rows: &[PriceRow]) -> bool
-    ensures { result ≡ every (at_ties (exceeds side) best.now) rows.now }
+    ensures { result ≡ list_all (at_ties (exceeds side) best.now) rows.now }
 {
-    let mut all = true;
-    for row in rows {
-        all = all & exceeds_if_tied(row, side, best);
-    }
-    all
+    rows.iter().all(|row| exceeds_if_tied(row, side, best))
 }
 
 // The third rule's case, settled over the rows that match as many and leave as much as the best.
@@ -130,32 +125,24 @@ fn decide_rows(rows: &[PriceRow], close: Option<u32>) -> Option<Decision>
     Some(Decision { row, third })
 }
 
-// The struck row of the orders, with the case of the third rule that applied.
+// The struck row of the orders, with the case of the third rule that applied. The orders and the closing price go together from
+// here on, but a struct of the two would only be made and taken apart at each call.
 pub fn decide(orders: &[Order], close: Option<u32>) -> Result<Option<Decision>, AuctionError>
     ensures { result ≡ decision_answer close orders.now }
 {
-    let empty = PriceRow {
-        price: 0,
-        demand: 0,
-        supply: 0,
-    };
-    let mut table = [empty; MOST_ORDERS];
-    match entry_rows(orders, &mut table) {
-        Ok(n) => Ok(decide_rows(&table[0..n], close)),
-        Err(e) => Err(e),
-    }
+    let rows = entry_rows(orders)?;
+    Ok(decide_rows(rows.as_slice(), close))
 }
 
 // The price of a decision, with the shares that it matches.
-fn price_of(decided: Option<Decision>) -> Option<AuctionPrice>
-    ensures { result ≡ priced_by decided }
-{
-    match decided {
-        None => None,
-        Some(decision) => Some(AuctionPrice {
-            price: decision.row.price,
-            matched: decision.row.matched(),
-        }),
+impl From<Decision> for AuctionPrice {
+    ghost from_gives = { λ decided price. price ≡ priced decided.row };
+
+    fn from(decided: Decision) -> AuctionPrice {
+        AuctionPrice {
+            price: decided.row.price,
+            matched: decided.row.matched(),
+        }
     }
 }
 
@@ -167,8 +154,6 @@ pub fn auction_price(
     ensures value { result ≡ price_answer close orders.now }
     ensures best { IfOk result (BestPrice orders.now) }
 {
-    match decide(orders, close) {
-        Ok(decided) => Ok(price_of(decided)),
-        Err(e) => Err(e),
-    }
+    let decided = decide(orders, close)?;
+    Ok(decided.map(AuctionPrice::from))
 }

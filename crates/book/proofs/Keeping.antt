@@ -1,22 +1,28 @@
 -- Each change keeps entry order, and only a put makes the list longer. Assumes nothing.
 use Rattle.std.proofs.Common.{◌≡◌, ℕ, ◌<◌, ◌≤◌, Bool, true, false, cond, not, eqb, leb, List, [], ◌∷◌, ◌++◌, length, is_some, Some, None, ap, arith}
 use Rattle.std.specs.Option.{option_to_list}
-use Rattle.std.proofs.ByRecursion.{all_kept_by}
 use Rattle.std.proofs.lemmas.List.{length_push}
+use Rattle.std.proofs.lemmas.List.Elements.{All-filter}
+use Rattle.std.proofs.lemmas.List.Kept.{AllPairs-filter}
+use Rattle.std.proofs.lemmas.List.Quantifiers.{all_pairs_push}
 use Rattle.std.proofs.lemmas.List.Sums.{length-filter, count_by-le-length}
 use Rattle.std.proofs.lemmas.Bool.{cond_both}
 use Rattle.order.specs.declared.Order.{Order}
 use Rattle.book.specs.declared.Replacement.{Replacement}
 use Rattle.book.specs.Books.{in_entry_order, order_of, above_all, dropped, replaced, moved_to_end, cut_down}
-use Rattle.book.proofs.Numbers.{rises, in_order, above_each, rising_push, rising_kept, rising_cut}
+use Rattle.book.proofs.Numbers.{rises, in_order, above_each, rising_cut}
 
 pub ordered_put : (o : Order) (xs : List Order) → in_entry_order xs ≡ true → above_all o.number xs ≡ true → in_entry_order (xs ++ o ∷ []) ≡ true
-ordered_put o xs ordered above = in_order (xs ++ o ∷ []) (rising_push o xs (rises xs ordered) (above_each o.number xs above))
+ordered_put o xs ordered above =
+    in_order (xs ++ o ∷ [])
+    (all_pairs_push (λ x y. x.number < y.number) xs o (rises xs ordered) (above_each o.number xs above))
 
 pub ordered_moved : (old : ℕ) (new : Replacement) (o : Order) (xs : List Order) → in_entry_order xs ≡ true → above_all new.number xs ≡ true → in_entry_order (moved_to_end old new (Some o) xs) ≡ true
 ordered_moved old new o xs ordered above =
     in_order (dropped old xs ++ replaced new o ∷ [])
-    (rising_push (replaced new o) (dropped old xs) (rising_kept _ xs (rises xs ordered)) (all_kept_by _ _ xs (above_each new.number xs above)))
+    (all_pairs_push (λ x y. x.number < y.number) (dropped old xs) (replaced new o)
+    (AllPairs-filter (λ x y. x.number < y.number) _ xs (rises xs ordered))
+    (All-filter _ (λ x. x.number < new.number) xs (above_each new.number xs above)))
 
 pub ordered_cut : (n shares : ℕ) (xs : List Order) → in_entry_order xs ≡ true → in_entry_order (cut_down n shares xs) ≡ true
 ordered_cut n shares xs ordered = in_order (cut_down n shares xs) (rising_cut n shares xs (rises xs ordered))

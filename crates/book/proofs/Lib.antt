@@ -1,3 +1,4 @@
 pub mod Numbers
 pub mod Keeping
 pub mod Places
+pub mod Walking

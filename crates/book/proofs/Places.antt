@@ -1,28 +1,19 @@
--- The k-th order of a list. Assumes nothing.
-use Rattle.std.proofs.Common.{◌≡◌, ℕ, zero, suc, ◌+◌, ◌<◌, ◌≤◌, List, [], ◌∷◌, ◌++◌, length, get_or, take, Some, None, sym, refl, ap, ◌∙◌, append-nil, le_of_suc-le-suc, arith}
+-- What the k-th question answers. That it answers the k-th below the count, and nobody past it, are the library's lemmas
+-- `slice_get-get_or` and `slice_get_past`. Assumes nothing.
+use Rattle.std.proofs.Common.{◌≡◌, ℕ, zero, suc, ◌+◌, ◌<◌, List, [], ◌∷◌, ◌++◌, length, take, None, sym, refl, ap, ◌∙◌, append-nil, le_of_suc-le-suc, arith}
 use lib.Seq.{take-nil}
+use Rattle.std.specs.List.{slice_get}
 use Rattle.std.specs.Option.{option_to_list}
 use Rattle.order.specs.declared.Order.{Order}
-use Rattle.book.specs.Books.{nth}
-
-pub nth_at : (xs : List Order) (k : ℕ) (d : Order) → k < length xs → nth xs k ≡ Some (get_or xs k d)
-nth_at [] k d h = absurd (omega (arith, h))
-nth_at (x ∷ xs) zero d h = refl
-nth_at (x ∷ xs) (suc k) d h = nth_at xs k d (le_of_suc-le-suc h)
-
-pub nth_past : (xs : List Order) (k : ℕ) → length xs ≤ k → nth xs k ≡ None
-nth_past [] k h = refl
-nth_past (x ∷ xs) zero h = absurd (omega (arith, h))
-nth_past (x ∷ xs) (suc k) h = nth_past xs k (le_of_suc-le-suc h)
 
 -- there is an order at each place below the count
-pub nth_none : (xs : List Order) (k : ℕ) → k < length xs → nth xs k ≡ None → ⊥
+pub nth_none : (xs : List Order) (k : ℕ) → k < length xs → slice_get xs k ≡ None → ⊥
 nth_none [] k h e = omega (arith, h)
 nth_none (x ∷ xs) zero h e = let z : ◌≡◌ {A = ℕ} 0 1 = cc in omega arith
 nth_none (x ∷ xs) (suc k) h e = nth_none xs k (le_of_suc-le-suc h) e
 
 -- one order more of a list, as the k-th question answers it
-pub take_nth : (xs : List Order) (k : ℕ) → take (k + 1) xs ≡ take k xs ++ option_to_list (nth xs k)
+pub take_nth : (xs : List Order) (k : ℕ) → take (k + 1) xs ≡ take k xs ++ option_to_list (slice_get xs k)
 take_nth [] k = take-nil (k + 1) ∙ sym (append-nil (take k []) ∙ take-nil k)
 take_nth (x ∷ xs) zero = refl
 take_nth (x ∷ xs) (suc k) =

@@ -1,6 +1,7 @@
 -- What a book is: the orders at rest in rising entry number, and a place rule. Assumes nothing.
-use Rattle.std.specs.Prelude.{◌≡◌, ℕ, zero, suc, ◌-◌, ◌≤◌, min, Bool, true, cond, not, ◌&&◌, List, [], ◌∷◌, ◌++◌, length, Some, None, Ok, Err, filter, Option, Result, ◌==◌, nat_le, nat_lt}
+use Rattle.std.specs.Prelude.{◌≡◌, ℕ, ◌-◌, ◌≤◌, min, Bool, true, cond, not, ◌&&◌, List, [], ◌∷◌, ◌++◌, length, Some, None, Ok, Err, filter, find, Option, Result, ◌==◌, nat_le, nat_lt}
 use Rattle.std.proofs.Common.{arith}
+use Rattle.std.specs.List.{list_all}
 use Rattle.std.specs.Option.{option_to_list}
 use Rattle.order.specs.declared.Kind.{Kind}
 use Rattle.order.specs.declared.Kind.TheVariants.{AtAuction, Limit}
@@ -15,8 +16,7 @@ PlaceRule = List Order → ℕ → ℕ
 
 -- the number is below that of every order
 abbrev pub below_all : ℕ → List Order → Bool
-below_all number [] = true
-below_all number (o ∷ os) = nat_lt number o.number && below_all number os
+below_all number orders = list_all (λ o. nat_lt number o.number) orders
 
 -- each entry number is below all that follow
 abbrev pub in_entry_order : List Order → Bool
@@ -34,21 +34,13 @@ pub record Kept (orders : List Order) (rule : PlaceRule) : Type 0 where
 
 -- ---- questions
 
--- the k-th, from 0
-abbrev pub nth : List Order → ℕ → Option Order
-nth [] k = None
-nth (o ∷ os) zero = Some o
-nth (o ∷ os) (suc k) = nth os k
-
 -- the order of a number
 abbrev pub order_of : ℕ → List Order → Option Order
-order_of number [] = None
-order_of number (o ∷ os) = cond (o.number == number) (Some o) (order_of number os)
+order_of number orders = find (λ o. o.number == number) orders
 
 -- the number is above that of every resting order
 abbrev pub above_all : ℕ → List Order → Bool
-above_all number [] = true
-above_all number (o ∷ os) = nat_lt o.number number && above_all number os
+above_all number orders = list_all (λ o. nat_lt o.number number) orders
 
 -- the same, looking at the last resting order alone
 abbrev pub above_last : ℕ → Option Order → Bool

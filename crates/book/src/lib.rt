@@ -1,16 +1,19 @@
 // What a book of resting orders means, and the decisions that all books share.
 #![tactic(auto)]
 
-ghost use Rattle.std.specs.Prelude.{◌≡◌, ℕ, List, length};
+ghost use Rattle.std.specs.Prelude.{◌≡◌, ℕ, List, length, slice_get};
 ghost use Rattle.order.specs.Orders.{first_ranked};
 ghost use Rattle.order.specs.declared.Order.{Order};
-ghost use Rattle.book.specs.Books.{PlaceRule, Kept, nth, order_of, above_all, above_last, answer, put_refusal, put_list, repriced, replaced, replace_refusal, replace_list, left_of, cut_refusal, cut_list, free_rows};
-ghost use Rattle.book.specs.Refusals.{refusal_number, put_checks, replace_checks, cut_checks};
+ghost use Rattle.book.specs.Books.{PlaceRule, Kept, order_of, above_all, above_last, answer, put_refusal, put_list, repriced, replaced, replace_refusal, replace_list, left_of, cut_refusal, cut_list, free_rows};
+ghost use Rattle.book.specs.Refusals.{put_checks, replace_checks, cut_checks, ChecksFound};
+ghost use Rattle.book.specs.BookOrders.{orders_left};
 
-use order::{Kind, Order, Side};
+use order::{Kind, MOST_ORDERS, Order, Side};
+use std::error::Error;
+use std::fmt;
 
 // The most orders that a book holds.
-pub const MOST_RESTING: usize = 512;
+pub const MOST_RESTING: usize = MOST_ORDERS;
 
 // Why a book refuses.
 #[derive(Clone, Copy, PartialEq, Eq, Debug)]
@@ -27,12 +30,15 @@ pub enum BookRefusal {
     BadCut,
 }
 
-impl BookRefusal {
-    // 1 to 5, for B1 to B5.
-    pub fn number(self) -> u32
-        ensures { result ≡ refusal_number self }
-    {
-        match self {
+// 1 to 5, for B1 to B5.
+impl From<BookRefusal> for u32 {
+    ghost use Rattle.std.specs.Prelude.{◌≡◌};
+    ghost use Rattle.book.specs.Refusals.{refusal_number};
+
+    ghost from_gives = { λ refusal number. number ≡ refusal_number refusal };
+
+    fn from(refusal: BookRefusal) -> u32 {
+        match refusal {
             BookRefusal::NumberNotAbove => 1,
             BookRefusal::NoShares => 2,
             BookRefusal::NoPlace => 3,
@@ -41,6 +47,20 @@ impl BookRefusal {
         }
     }
 }
+
+// B1 to B5.
+impl fmt::Display for BookRefusal {
+    ghost use Rattle.std.specs.Prelude.{Some};
+    ghost use Rattle.book.specs.Refusals.{refusal_text};
+
+    ghost output = { λ refusal. Some (refusal_text refusal) };
+
+    fn fmt<W: fmt::Write>(&self, f: &mut fmt::Formatter<W>) -> fmt::Result {
+        write!(f, "B{}", u32::from(*self))
+    }
+}
+
+impl Error for BookRefusal {}
 
 // What an order is replaced by. Without a price the order keeps its own.
 #[derive(Clone, Copy)]
@@ -61,7 +81,7 @@ pub trait Book {
     // numbers rise, there are at most 512 orders, and no broker has more places than 512 less the count
     ghost kept: { (b : Self) → Kept (resting b) (rule b) };
 
-    // Adds the order at the end.
+    // Adds the order at the end. That the rule is fixed stands in all three: no invariant compares two values.
     fn put(&mut self, order: Order) -> Result<(), BookRefusal>
         ensures answer { result ≡ answer (put_refusal (rule self.old) order (resting self.old)) }
         ensures list { resting self.new ≡ put_list (rule self.old) order (resting self.old) }
@@ -85,7 +105,7 @@ pub trait Book {
 
     // The k-th order, from 0.
     fn get(&self, k: usize) -> Option<Order>
-        ensures { result ≡ nth (resting self.now) k };
+        ensures { result ≡ slice_get (resting self.now) k };
 
     // The order of a number.
     fn find(&self, number: u32) -> Option<Order>
@@ -100,61 +120,54 @@ pub trait Book {
         ensures { result ≡ rule self.now (resting self.now) broker };
 }
 
-// Why an order is not put; `above` says that its number is above every resting one.
-pub fn put_refusal(above: bool, shares: u32, places: usize) -> Option<BookRefusal>
-    ensures { result ≡ put_checks above shares places }
+// Whether an order may be put; `above` says that its number is above every resting one.
+pub fn check_put(above: bool, shares: u32, places: usize) -> Result<(), BookRefusal>
+    ensures { result ≡ answer (put_checks above shares places) }
 {
     if !above {
-        Some(BookRefusal::NumberNotAbove)
-    } else if shares == 0 {
-        Some(BookRefusal::NoShares)
-    } else if places == 0 {
-        Some(BookRefusal::NoPlace)
-    } else {
-        None
-    }
-}
-
-// Why an order is not replaced; `above` says that the new number is above every resting one.
-pub fn replace_refusal(above: bool, shares: u32, old: Option<Order>) -> Option<BookRefusal>
-    ensures { result ≡ replace_checks above shares old }
-{
-    if !above {
-        return Some(BookRefusal::NumberNotAbove);
+        return Err(BookRefusal::NumberNotAbove);
     }
     if shares == 0 {
-        return Some(BookRefusal::NoShares);
+        return Err(BookRefusal::NoShares);
     }
-    match old {
-        None => Some(BookRefusal::NotResting),
-        Some(_) => None,
+    if places == 0 {
+        return Err(BookRefusal::NoPlace);
     }
+    Ok(())
 }
 
-// Why an order is not cut.
-pub fn cut_refusal(found: Option<Order>, shares: u32) -> Option<BookRefusal>
-    ensures { result ≡ cut_checks found shares }
+// What was found under the old number, an order or its place, if it may be replaced. `above` says that the new number is
+// above every resting one.
+pub fn check_replace<T: Drop>(above: bool, shares: u32, old: Option<T>) -> Result<T, BookRefusal>
+    ensures { ChecksFound (replace_checks above shares old) old result }
 {
-    match found {
-        None => Some(BookRefusal::NotResting),
-        Some(o) => {
-            if shares == 0 || o.shares < shares {
-                Some(BookRefusal::BadCut)
-            } else {
-                None
-            }
-        }
+    if !above {
+        return Err(BookRefusal::NumberNotAbove);
     }
+    if shares == 0 {
+        return Err(BookRefusal::NoShares);
+    }
+    old.ok_or(BookRefusal::NotResting)
+}
+
+// The order that was found, if so many shares may be cut off it.
+pub fn check_cut(found: Option<Order>, shares: u32) -> Result<Order, BookRefusal>
+    ensures { ChecksFound (cut_checks found shares) found result }
+{
+    let order = found.ok_or(BookRefusal::NotResting)?;
+    if shares == 0 || order.shares < shares {
+        return Err(BookRefusal::BadCut);
+    }
+    Ok(order)
 }
 
 // A kind under the price that is given, if any.
 fn repriced(price: Option<u32>, kind: Kind) -> Kind
     ensures { result ≡ repriced price kind }
 {
-    match (price, kind) {
-        (_, Kind::AtAuction) => Kind::AtAuction,
-        (None, Kind::Limit(own)) => Kind::Limit(own),
-        (Some(given), Kind::Limit(_)) => Kind::Limit(given),
+    match kind {
+        Kind::AtAuction => Kind::AtAuction,
+        Kind::Limit(own) => Kind::Limit(price.unwrap_or(own)),
     }
 }
 
@@ -165,10 +178,9 @@ impl Replacement {
     {
         Order {
             number: self.number,
-            broker: order.broker,
-            side: order.side,
             kind: repriced(self.price, order.kind),
             shares: self.shares,
+            ..*order
         }
     }
 }
@@ -177,11 +189,9 @@ impl Replacement {
 pub fn left_of(order: &Order, shares: u32) -> Option<Order>
     ensures { result ≡ left_of shares order.now }
 {
-    if order.shares <= shares {
-        return None;
-    }
-    Some(Order {
-        shares: order.shares - shares,
+    let left = order.shares.checked_sub(shares)?;
+    (left > 0).then_some(Order {
+        shares: left,
         ..*order
     })
 }
@@ -190,10 +200,7 @@ pub fn left_of(order: &Order, shares: u32) -> Option<Order>
 pub fn above_last(number: u32, last: Option<Order>) -> bool
     ensures { result ≡ above_last number last }
 {
-    match last {
-        None => true,
-        Some(o) => o.number < number,
-    }
+    last.is_none_or(|o| o.number < number)
 }
 
 // Each broker's places in a book over so many rows, of which `count` are taken.
@@ -215,4 +222,36 @@ pub fn is_above<B: Book>(book: &B, number: u32) -> bool
     ensures { result ≡ above_all number (B.Book.resting book.now) }
 {
     above_last(number, last(book))
+}
+
+// The resting orders of any book, one after the other.
+#[derive(Clone, Copy)]
+pub struct BookOrders<'a, B> {
+    book: &'a B,
+    next: usize,
+}
+
+// All resting orders, the lowest entry number first.
+pub fn orders<B: Book>(book: &B) -> BookOrders<'_, B>
+    ensures { orders_left B.Book.resting result ≡ B.Book.resting book.now }
+{
+    BookOrders { book, next: 0 }
+}
+
+impl<'a, B: Book> Iterator for BookOrders<'a, B> {
+    ghost use Rattle.std.specs.Iterator.{YieldsFirst, item_count};
+    ghost use Rattle.book.specs.BookOrders.{orders_left};
+
+    type Item = Order;
+
+    ghost next_gives = { YieldsFirst (orders_left B.Book.resting) };
+
+    ghost remaining = { item_count (orders_left B.Book.resting) };
+
+    fn next(&mut self) -> Option<Order> {
+        let order = self.book.get(self.next)?;
+        // a place counted by hand: a range would hold the count beside it, which the book knows
+        self.next += 1;
+        Some(order)
+    }
 }

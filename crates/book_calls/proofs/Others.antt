@@ -69,3 +69,6 @@ call_others rule (Replace old new) xs n e =
     let neither = or_parts (eqb old n) (eqb new.number n) e in
     replace_others n old new xs neither.0 neither.1
 call_others rule (Cut m shares) xs n e = cut_others n m shares xs e
+
+pub touches_only_named : (rule : PlaceRule) (call : BookCall) (before after : List Order) → after ≡ call_list rule call before → TouchesOnlyNamed call before after
+touches_only_named rule call before after is n e = ap (order_of n) is ∙ call_others rule call before n e

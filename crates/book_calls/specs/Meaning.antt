@@ -1,33 +1,24 @@
 -- The call that a line asks for, by its words. Faults are found from left to right. Assumes nothing.
 use Rattle.std.specs.Prelude.{ℕ, cond, List, [], ◌∷◌, Some, None, Ok, Err, codes, Option, Result}
+use Rattle.std.specs.Option.{ok_or}
 use Rattle.std.specs.Str.{bytes_eq}
 use Rattle.order.specs.declared.Kind.{Kind}
 use Rattle.order.specs.declared.Kind.TheVariants.{AtAuction, Limit}
 use Rattle.order.specs.declared.Side.{Side}
 use Rattle.order.specs.declared.Side.TheVariants.{Buy, Sell}
-use Rattle.words.specs.Cutting.{number_in}
+use Rattle.words.specs.Cutting.{and_then, nothing_after, number_in}
 use Rattle.book_calls.specs.declared.BookCall.{BookCall}
 use Rattle.book_calls.specs.declared.BookCall.TheVariants.{Put, Replace, Cut}
 use Rattle.book_calls.specs.declared.faults.CallFault.{CallFault}
 use Rattle.book_calls.specs.declared.faults.CallFault.TheVariants.{UnknownWord, WordMissing, WordTooMany, BadNumber, BadSide, BadPrice}
 
--- goes on where there is no fault
-abbrev pub and_then : {A B E : Type 0} → Result A E → (A → Result B E) → Result B E
-and_then (Ok x) next = next x
-and_then (Err e) next = Err e
-
--- a number, or else this fault
-abbrev pub or_fault : CallFault → Option ℕ → Result ℕ CallFault
-or_fault fault None = Err fault
-or_fault fault (Some n) = Ok n
-
 -- the entry number, broker or shares that a word names
 abbrev pub numeral_in : List ℕ → Result ℕ CallFault
-numeral_in word = or_fault BadNumber (number_in word)
+numeral_in word = ok_or (number_in word) BadNumber
 
 -- the price that a word names
 abbrev pub price_in : List ℕ → Result ℕ CallFault
-price_in word = or_fault BadPrice (number_in word)
+price_in word = ok_or (number_in word) BadPrice
 
 -- a side is `buy` or `sell`
 abbrev pub side_in : List ℕ → Result Side CallFault
@@ -40,18 +31,13 @@ side_in word =
 abbrev pub kind_in : List ℕ → Result Kind CallFault
 kind_in word = cond (bytes_eq word (codes "at-auction")) (Ok AtAuction) (and_then (price_in word) (λ p. Ok (Limit p)))
 
--- no word may follow
-abbrev pub nothing_after : BookCall → List (List ℕ) → Result BookCall CallFault
-nothing_after call [] = Ok call
-nothing_after call (w ∷ ws) = Err WordTooMany
-
 -- ---- put NUMBER BROKER SIDE SHARES KIND
 
 -- after the shares: the limit or `at-auction`
 abbrev pub put_kind : ℕ → ℕ → Side → ℕ → List (List ℕ) → Result BookCall CallFault
 put_kind number broker side shares [] = Err WordMissing
 put_kind number broker side shares (w ∷ ws) =
-    and_then (kind_in w) (λ kind. nothing_after (Put (record { number = number; broker = broker; side = side; kind = kind; shares = shares })) ws)
+    and_then (kind_in w) (λ kind. nothing_after WordTooMany (Put (record { number = number; broker = broker; side = side; kind = kind; shares = shares })) ws)
 
 -- after the side: the shares
 abbrev pub put_shares : ℕ → ℕ → Side → List (List ℕ) → Result BookCall CallFault
@@ -79,7 +65,7 @@ put_line (w ∷ ws) = and_then (numeral_in w) (λ number. put_broker number ws)
 abbrev pub replace_price : ℕ → ℕ → ℕ → List (List ℕ) → Result BookCall CallFault
 replace_price old number shares [] = Ok (Replace old (record { number = number; price = None; shares = shares }))
 replace_price old number shares (w ∷ ws) =
-    and_then (price_in w) (λ p. nothing_after (Replace old (record { number = number; price = Some p; shares = shares })) ws)
+    and_then (price_in w) (λ p. nothing_after WordTooMany (Replace old (record { number = number; price = Some p; shares = shares })) ws)
 
 -- after the new number: the shares
 abbrev pub replace_shares : ℕ → ℕ → List (List ℕ) → Result BookCall CallFault
@@ -101,7 +87,7 @@ replace_line (w ∷ ws) = and_then (numeral_in w) (λ old. replace_number old ws
 -- after the entry number: the shares
 abbrev pub cut_shares : ℕ → List (List ℕ) → Result BookCall CallFault
 cut_shares number [] = Err WordMissing
-cut_shares number (w ∷ ws) = and_then (numeral_in w) (λ shares. nothing_after (Cut number shares) ws)
+cut_shares number (w ∷ ws) = and_then (numeral_in w) (λ shares. nothing_after WordTooMany (Cut number shares) ws)
 
 -- after `cut`: the entry number
 abbrev pub cut_line : List (List ℕ) → Result BookCall CallFault

@@ -1,6 +1,6 @@
 // Why a line is refused.
-ghost use Rattle.std.specs.Prelude.{◌≡◌};
-ghost use Rattle.book_calls.specs.FaultText.{fault_text};
+use std::error::Error;
+use std::fmt;
 
 #[derive(Clone, Copy, PartialEq, Eq, Debug)]
 pub enum CallFault {
@@ -17,7 +17,10 @@ pub enum CallFault {
 }
 
 impl CallFault {
-    // What is wrong with the line.
+    ghost use Rattle.std.specs.Prelude.{◌≡◌};
+    ghost use Rattle.book_calls.specs.FaultText.{fault_text};
+
+    // What is wrong with the line. `Display` writes it, and may fail; this does not.
     pub fn message(self) -> &'static str
         ensures { result.now ≡ fault_text self }
     {
@@ -32,3 +35,16 @@ impl CallFault {
         }
     }
 }
+
+impl fmt::Display for CallFault {
+    ghost use Rattle.std.specs.Prelude.{Some};
+    ghost use Rattle.book_calls.specs.FaultText.{fault_text};
+
+    ghost output = { λ fault. Some (fault_text fault) };
+
+    fn fmt<W: fmt::Write>(&self, f: &mut fmt::Formatter<W>) -> fmt::Result {
+        f.write_str(self.message())
+    }
+}
+
+impl Error for CallFault {}

@@ -25,18 +25,6 @@ pub enum BookCall {
     Cut(u32, u32),
 }
 
-fn hand_on<B: Book>(book: &mut B, call: BookCall) -> Result<(), BookRefusal>
-    ensures answer { result ≡ answer (call_refusal (B.Book.rule book.old) call (B.Book.resting book.old)) }
-    ensures list { B.Book.resting book.new ≡ call_list (B.Book.rule book.old) call (B.Book.resting book.old) }
-    ensures fixed { B.Book.rule book.new ≡ B.Book.rule book.old }
-{
-    match call {
-        BookCall::Put(order) => book.put(order),
-        BookCall::Replace(old, new) => book.replace(old, new),
-        BookCall::Cut(number, shares) => book.cut(number, shares),
-    }
-}
-
 // Makes the call on any book, and answers as the book does. An order that the call does not name is left as it was.
 pub fn play<B: Book>(book: &mut B, call: BookCall) -> Result<(), BookRefusal>
     ensures answer { result ≡ answer (call_refusal (B.Book.rule book.old) call (B.Book.resting book.old)) }
@@ -44,5 +32,9 @@ pub fn play<B: Book>(book: &mut B, call: BookCall) -> Result<(), BookRefusal>
     ensures fixed { B.Book.rule book.new ≡ B.Book.rule book.old }
     ensures others { TouchesOnlyNamed call (B.Book.resting book.old) (B.Book.resting book.new) }
 {
-    hand_on(book, call)
+    match call {
+        BookCall::Put(order) => book.put(order),
+        BookCall::Replace(old, new) => book.replace(old, new),
+        BookCall::Cut(number, shares) => book.cut(number, shares),
+    }
 }

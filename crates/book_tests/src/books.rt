@@ -1,10 +1,10 @@
-// Calls on a book with the refusals to expect, and what a book then holds, as texts. What is expected is worked out by hand
+// Calls on a book with the answers to expect, and what a book then holds, as texts. What is expected is worked out by hand
 // from the rules.
-use book::Book;
+use book::{Book, BookRefusal, orders};
 use book_calls::{BookCall, play, read_call};
 use order::{Kind, Order, Side};
 use std::process::Abort;
-use words::cut_line;
+use words::Lines;
 
 mod edges;
 mod piles;
@@ -19,50 +19,43 @@ fn buy(number: u32, broker: u32, shares: u32) -> Order {
     }
 }
 
-// The number of the refusal, and 0 where there is none.
-fn refusal_of<B: Book>(book: &mut B, call: BookCall) -> u32 {
-    match play(book, call) {
-        Ok(()) => 0,
-        Err(refusal) => refusal.number(),
-    }
-}
-
 fn call_in(line: &[u8]) -> Option<BookCall> {
-    match read_call(line) {
-        Ok(call) => call,
-        Err(_) => None,
-    }
+    read_call(line).ok()?
 }
 
-// Makes the calls of a text; their refusals are these.
-fn answers<B: Book>(rt: &impl Abort, book: &mut B, text: &[u8], refusals: &[u32]) {
-    let mut rest = text;
-    for refusal in refusals {
-        let (line, tail) = cut_line(rest);
+// Each line of the text ends with a newline, and there are so many.
+fn has_lines(text: &[u8], count: usize) -> bool {
+    Lines::new(text).count() == count.saturating_add(1) && text.last().is_none_or(|b| *b == b'\n')
+}
+
+// Makes the calls of a text; the book answers so.
+fn answers<B: Book>(
+    rt: &impl Abort,
+    book: &mut B,
+    text: &[u8],
+    expected: &[Result<(), BookRefusal>],
+) {
+    assert!(rt; has_lines(text, expected.len()));
+    for (line, answer) in Lines::new(text).zip(expected) {
         match call_in(line) {
-            Some(call) => assert_eq!(rt; refusal_of(book, call), *refusal),
+            Some(call) => assert_eq!(rt; play(book, call), *answer),
             None => assert!(rt; false),
         }
-        rest = tail;
     }
-    assert!(rt; rest.is_empty());
 }
 
 // The book holds the orders of these puts and no others, however it is asked.
 fn holds<B: Book>(rt: &impl Abort, book: &B, text: &[u8]) {
-    let mut rest = text;
-    for k in 0..book.count() {
-        let (line, tail) = cut_line(rest);
+    assert!(rt; has_lines(text, book.count()));
+    assert_eq!(rt; orders(book).count(), book.count());
+    for ((k, order), line) in orders(book).enumerate().zip(Lines::new(text)) {
         match call_in(line) {
-            Some(BookCall::Put(order)) => {
-                assert_eq!(rt; book.get(k), Some(order));
-                assert_eq!(rt; book.find(order.number), Some(order));
-            }
+            Some(BookCall::Put(put)) => assert_eq!(rt; order, put),
             Some(_) | None => assert!(rt; false),
         }
-        rest = tail;
+        assert_eq!(rt; book.get(k), Some(order));
+        assert_eq!(rt; book.find(order.number), Some(order));
     }
-    assert!(rt; rest.is_empty());
     assert_eq!(rt; book.get(book.count()), None);
 }
 

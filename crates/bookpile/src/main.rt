@@ -1,27 +1,19 @@
 // A pile of two caps over a flat book: makes the calls of a text on it, and shows what rests.
 #![tactic(auto)]
 
-use book::{Book, BookRefusal};
+use book::{Book, BookRefusal, orders};
 use book_calls::{BookCall, play, read_call};
 use book_price::book_price;
-use capped_book::{CappedBook, pile};
+use capped_book::pile;
 use flat_book::FlatBook;
-use order::{Kind, Order, Side};
+use order::{Order, Side};
+use std::fmt;
 use std::io::Read;
 use std::process::ExitCode;
-use words::{cut_line, is_word, next_word, number, uncommented};
+use words::{Lines, Words, is_word, number, uncommented};
 
 // The most rows that the program takes.
 const MOST_ROWS: u32 = 100_000;
-
-// What stands in a row that no order has taken.
-const EMPTY: Order = Order {
-    number: 0,
-    broker: 0,
-    side: Side::Buy,
-    kind: Kind::AtAuction,
-    shares: 0,
-};
 
 // How many rows the flat book has, and the two caps over it.
 #[derive(Clone, Copy)]
@@ -31,55 +23,52 @@ struct Sizes {
     upper: u8,
 }
 
-// The next word as a number, and what follows it.
-fn next_number(line: &[u8]) -> Option<(u32, &[u8])> {
-    let (word, rest) = next_word(line)?;
-    let n = number(word)?;
-    Some((n, rest))
+// The next word as a number.
+fn next_number(words: &mut Words<'_>) -> Option<u32> {
+    number(words.next()?)
 }
 
-// The next word as a cap, from 0 to 255, and what follows it.
-fn next_cap(line: &[u8]) -> Option<(u8, &[u8])> {
-    let (n, rest) = next_number(line)?;
-    let cap = u8::try_from(n).ok()?;
-    Some((cap, rest))
+// The next word as a cap, from 0 to 255.
+fn next_cap(words: &mut Words<'_>) -> Option<u8> {
+    u8::try_from(next_number(words)?).ok()
 }
 
 // The sizes that a line `pile ROWS LOWER UPPER` gives.
 fn read_sizes(line: &[u8]) -> Option<Sizes> {
-    let (word, rest) = next_word(uncommented(line))?;
-    if !is_word(word, b"pile") {
+    let mut words = Words::new(uncommented(line));
+    if !is_word(words.next()?, b"pile") {
         return None;
     }
-    let (rows, rest) = next_number(rest)?;
-    let (lower, rest) = next_cap(rest)?;
-    let (upper, rest) = next_cap(rest)?;
-    if rows > MOST_ROWS || next_word(rest).is_some() {
+    let rows = next_number(&mut words)?;
+    let lower = next_cap(&mut words)?;
+    let upper = next_cap(&mut words)?;
+    if rows > MOST_ROWS || words.next().is_some() {
         return None;
     }
     Some(Sizes {
+        // no `From` makes a `usize` of a `u32`, and `try_from` would add a way to fail
         rows: rows as usize,
         lower,
         upper,
     })
 }
 
-fn answer_text(answer: Result<(), BookRefusal>) -> &'static str {
-    match answer {
-        Ok(()) => "done",
-        Err(refusal) => match refusal {
-            BookRefusal::NumberNotAbove => "refused B1",
-            BookRefusal::NoShares => "refused B2",
-            BookRefusal::NoPlace => "refused B3",
-            BookRefusal::NotResting => "refused B4",
-            BookRefusal::BadCut => "refused B5",
-        },
+// A book's answer to a call, as it is printed.
+#[derive(Clone, Copy)]
+struct Answer(Result<(), BookRefusal>);
+
+impl fmt::Display for Answer {
+    fn fmt<W: fmt::Write>(&self, f: &mut fmt::Formatter<W>) -> fmt::Result {
+        match self.0 {
+            Ok(()) => f.write_str("done"),
+            Err(refusal) => write!(f, "refused {refusal}"),
+        }
     }
 }
 
 // Makes a call, and prints it with the book's answer; of a put, also the places that its broker has left.
 fn answer_call<B: Book>(rt: &HostRuntime, book: &mut B, call: BookCall) -> anyhow::Result<()> {
-    let answer = answer_text(play(book, call));
+    let answer = Answer(play(book, call));
     match call {
         BookCall::Put(order) => {
             let number = order.number;
@@ -96,57 +85,41 @@ fn answer_call<B: Book>(rt: &HostRuntime, book: &mut B, call: BookCall) -> anyho
     Ok(())
 }
 
-// Makes the calls of a text, which begins with its second line; fails at a line that is refused.
+// Makes the calls of a text, whose first line is passed over; fails at a line that is refused.
 fn answer_calls<B: Book>(rt: &HostRuntime, book: &mut B, text: &[u8]) -> anyhow::Result<ExitCode> {
-    let mut rest = text;
-    let mut place = 2u64;
-    while !rest.is_empty() {
-        let (line, tail) = cut_line(rest);
+    for (line, place) in Lines::new(text).zip(1u64..).skip(1) {
         match read_call(line) {
             Ok(Some(call)) => answer_call(rt, book, call)?,
             Ok(None) => {}
             Err(fault) => {
-                let message = fault.message();
-                eprintln!(rt; "line {place}: {message}")?;
+                eprintln!(rt; "line {place}: {fault}")?;
                 return Ok(ExitCode::FAILURE);
             }
         }
-        place = place.saturating_add(1);
-        rest = tail;
     }
     Ok(ExitCode::SUCCESS)
 }
 
-fn side_name(side: Side) -> &'static str {
-    match side {
-        Side::Buy => "buy",
-        Side::Sell => "sell",
-    }
-}
-
 // Prints an order, with the places that its broker has left.
 fn show_order(rt: &HostRuntime, order: &Order, places: usize) -> anyhow::Result<()> {
-    let number = order.number;
-    let broker = order.broker;
-    let side = side_name(order.side);
-    let shares = order.shares;
-    print!(rt; "{number:>10} {broker:>8} {side:>5} {shares:>10} ")?;
-    match order.kind {
-        Kind::AtAuction => print!(rt; "at-auction")?,
-        Kind::Limit(price) => print!(rt; "{price:>10}")?,
-    }
-    println!(rt; " {places:>8}")?;
+    let Order {
+        number,
+        broker,
+        side,
+        kind,
+        shares,
+    } = *order;
+    println!(rt; "{number:>10} {broker:>8} {side:>5} {shares:>10} {kind:>10} {places:>8}")?;
     Ok(())
 }
 
 fn show_first<B: Book>(rt: &HostRuntime, book: &B, side: Side) -> anyhow::Result<()> {
-    let name = side_name(side);
     match book.first_ranked(side) {
         Some(order) => {
             let number = order.number;
-            println!(rt; "first {name}: {number}")?;
+            println!(rt; "first {side}: {number}")?;
         }
-        None => println!(rt; "first {name}: none")?,
+        None => println!(rt; "first {side}: none")?,
     }
     Ok(())
 }
@@ -156,10 +129,8 @@ fn show_book<B: Book>(rt: &HostRuntime, book: &B) -> anyhow::Result<()> {
     let count = book.count();
     println!(rt; "resting: {count}")?;
     println!(rt; "    number   broker  side     shares      price   places")?;
-    for k in 0..count {
-        if let Some(order) = book.get(k) {
-            show_order(rt, &order, book.places(order.broker))?;
-        }
+    for order in orders(book) {
+        show_order(rt, &order, book.places(order.broker))?;
     }
     show_first(rt, book, Side::Buy)?;
     show_first(rt, book, Side::Sell)?;
@@ -174,32 +145,22 @@ fn show_book<B: Book>(rt: &HostRuntime, book: &B) -> anyhow::Result<()> {
     Ok(())
 }
 
-// Puts the two caps over a book, makes the calls of the text on the pile, and shows it.
-fn run_pile<B: Book + Drop>(
-    rt: &HostRuntime,
-    below: B,
-    sizes: Sizes,
-    text: &[u8],
-) -> anyhow::Result<ExitCode> {
-    let mut book = pile(below, sizes.lower, sizes.upper);
-    let answered = answer_calls(rt, &mut book, text)?;
-    if answered == ExitCode::SUCCESS {
-        show_book(rt, &book)?;
-    }
-    Ok(answered)
-}
-
 fn main(rt: HostRuntime) -> anyhow::Result<ExitCode> {
     let heap = rt.alloc();
     let mut text = Vec::new(heap);
     rt.stdin().read_to_end(&mut text)?;
-    let (line, calls) = cut_line(text.as_slice());
-    let Some(sizes) = read_sizes(line) else {
+    let text = text.as_slice();
+    let Some(sizes) = Lines::new(text).next().and_then(read_sizes) else {
         eprintln!(rt;
             "line 1: it is not pile ROWS LOWER UPPER, with at most 100000 rows and caps of at most 255"
         )?;
         return Ok(ExitCode::FAILURE);
     };
-    let mut rows = vec![in heap; EMPTY; sizes.rows]?;
-    run_pile(&rt, FlatBook::new(rows.as_mut_slice()), sizes, calls)
+    let mut rows = vec![in heap; Order::default(); sizes.rows]?;
+    let mut book = pile(FlatBook::new(rows.as_mut_slice()), sizes.lower, sizes.upper);
+    let answered = answer_calls(&rt, &mut book, text)?;
+    if answered == ExitCode::SUCCESS {
+        show_book(&rt, &book)?;
+    }
+    Ok(answered)
 }

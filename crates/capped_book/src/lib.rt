@@ -2,11 +2,9 @@
 #![tactic(auto)]
 
 ghost use Rattle.std.specs.Prelude.{◌≡◌, ◌-◌};
-ghost use Rattle.std.specs.Option.{option_to_list};
-ghost use Rattle.book.specs.Books.{answer};
-ghost use Rattle.capped_book.specs.Caps.{held_by, capped_places, capped_rule, CapsAsLesser, capped_kept};
+ghost use Rattle.capped_book.specs.Caps.{held_by, capped_rule, CapsAsLesser, capped_kept};
 
-use book::{Book, BookRefusal, Replacement, is_above, put_refusal};
+use book::{Book, BookRefusal, Replacement, check_put, is_above, orders};
 use order::{Order, Side};
 
 // A book below, and the most orders that a broker may have resting.
@@ -24,6 +22,13 @@ impl<B: Book> CappedBook<B> {
     {
         CappedBook { below, limit }
     }
+
+    // What the cap leaves a broker.
+    fn under_cap(&self, broker: u32) -> usize
+        ensures { result ≡ self.now.limit - held_by broker (B.Book.resting self.now.below) }
+    {
+        usize::from(self.limit).saturating_sub(held(&self.below, broker))
+    }
 }
 
 // A pile of two caps over a book, which is a book again: to a broker it is the lesser of the two caps.
@@ -35,49 +40,11 @@ pub fn pile<B: Book>(below: B, lower: u8, upper: u8) -> CappedBook<CappedBook<B>
     CappedBook::new(CappedBook::new(below, lower), upper)
 }
 
-// How many of the orders at hand, one or none, are this broker's.
-fn one_if(order: Option<Order>, broker: u32) -> usize
-    ensures { result ≡ held_by broker (option_to_list order) }
-{
-    match order {
-        None => 0,
-        Some(o) => { if o.broker == broker { 1 } else { 0 } }
-    }
-}
-
 // How many orders of a broker rest in a book.
 fn held<B: Book>(book: &B, broker: u32) -> usize
     ensures { result ≡ held_by broker (B.Book.resting book.now) }
 {
-    let mut n = 0;
-    for k in 0..book.count() {
-        n += one_if(book.get(k), broker);
-    }
-    n
-}
-
-// What a cap leaves a broker that holds so many orders.
-fn under_cap(limit: u8, held: usize) -> usize
-    ensures { result ≡ limit - held }
-{
-    usize::from(limit).saturating_sub(held)
-}
-
-// A broker's places: the lesser of those below and those under the cap.
-fn capped_places(below: usize, limit: u8, held: usize) -> usize
-    ensures { result ≡ capped_places below limit held }
-{
-    below.min(under_cap(limit, held))
-}
-
-// What a change answers.
-fn told(refusal: Option<BookRefusal>) -> Result<(), BookRefusal>
-    ensures { result ≡ answer refusal }
-{
-    match refusal {
-        None => Ok(()),
-        Some(e) => Err(e),
-    }
+    orders(book).filter(|o| o.broker == broker).count()
 }
 
 impl<B: Book> Book for CappedBook<B> {
@@ -88,10 +55,9 @@ impl<B: Book> Book for CappedBook<B> {
     ghost kept = { λ b. capped_kept b.limit (B.Book.resting b.below) (B.Book.rule b.below) (B.Book.kept b.below) };
 
     fn put(&mut self, order: Order) -> Result<(), BookRefusal> {
-        if under_cap(self.limit, held(&self.below, order.broker)) == 0 {
+        if self.under_cap(order.broker) == 0 {
             // no place here, whatever there is below
-            let above = is_above(&self.below, order.number);
-            return told(put_refusal(above, order.shares, 0));
+            return check_put(is_above(&self.below, order.number), order.shares, 0);
         }
         self.below.put(order)
     }
@@ -121,10 +87,6 @@ impl<B: Book> Book for CappedBook<B> {
     }
 
     fn places(&self, broker: u32) -> usize {
-        capped_places(
-            self.below.places(broker),
-            self.limit,
-            held(&self.below, broker),
-        )
+        self.below.places(broker).min(self.under_cap(broker))
     }
 }

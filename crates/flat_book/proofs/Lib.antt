@@ -1,3 +1,4 @@
 pub mod Shifting
 pub mod Placing
+pub mod Searching
 pub mod Changing

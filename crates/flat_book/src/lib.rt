@@ -1,161 +1,141 @@
 // The flat book: rows in entry order, in memory that the renter lends.
 #![tactic(auto)]
 
-ghost use Rattle.std.specs.Prelude.{◌≡◌, ◌+◌, ◌-◌, ◌<◌, ◌≤◌, true, [], ◌∷◌, ◌++◌, length, Some, slice_set};
-ghost use Rattle.std.specs.List.{remove};
-ghost use Rattle.order.specs.Orders.{first_ranked};
-ghost use Rattle.book.specs.Books.{nth, above_all, in_entry_order, moved_to_end, cut_down};
-ghost use Rattle.flat_book.specs.Table.{listed, place_of, Locates, Keeps};
+ghost use Rattle.std.specs.Prelude.{◌≡◌, ◌+◌, ◌<◌, ◌≤◌, true, [], ◌∷◌, ◌++◌, length, take, Some, None, IfSome, IfNone};
+ghost use Rattle.std.specs.List.{remove, HoldsAt};
+ghost use Rattle.book.specs.Books.{above_all, in_entry_order, order_of, row_places};
 
-use book::{Replacement, above_last, left_of};
+use book::{
+    Book, BookRefusal, Replacement, above_last, check_cut, check_put, check_replace, left_of,
+    row_places,
+};
 use order::{Order, Side, first_ranked};
 
-mod flat;
-
 // Rows of orders, the taken ones in front. A row that is not taken holds anything.
+// A slice with a count beside it, and no vector: the renter lends the memory, and there is no heap.
 #[derive(Drop)]
-struct Rows<'a> {
+pub struct FlatBook<'a> {
     rows: &'a mut [Order],
     count: usize,
+    ghost within: { count ≤ length rows.now },
+    ghost ordered: { in_entry_order (take count rows.now) ≡ true },
+    ghost few: { count ≤ 512 },
 }
 
-// An order, if one was found, and the place where it was looked for.
-#[derive(Clone, Copy)]
-struct Located {
-    at: usize,
-    order: Option<Order>,
-}
+impl<'a> FlatBook<'a> {
+    ghost use Rattle.flat_book.specs.Flat.{flat_resting, flat_rule, place_of, HasRoom};
 
-// The place of the order of a number, or the count where it does not rest.
-fn place_of(orders: &[Order], number: u32) -> usize
-    ensures { result ≡ place_of number orders.now }
-{
-    let mut at = 0;
-    while at < orders.len() && orders[at].number != number {
-        at += 1;
-    }
-    at
-}
-
-impl<'a> Rows<'a> {
-    // The k-th order.
-    fn get(&self, k: usize) -> Option<Order>
-        requires { self.now.count ≤ length self.now.rows.now }
-        ensures { result ≡ nth (listed self.now) k }
+    // An empty book over these rows, whatever they hold.
+    pub fn new(rows: &'a mut [Order]) -> FlatBook<'a>
+        ensures empty { flat_resting result ≡ [] }
+        ensures places { flat_rule result ≡ row_places (length rows.old) }
     {
-        if k < self.count {
-            Some(self.rows[k])
-        } else {
-            None
-        }
+        FlatBook { rows, count: 0 }
+    }
+
+    // The resting orders.
+    fn taken(&self) -> &[Order]
+        ensures { result.now ≡ flat_resting self.now }
+    {
+        &self.rows[..self.count]
+    }
+
+    // The place of the order of a number, if it rests.
+    fn place_of(&self, number: u32) -> Option<usize>
+        ensures value { result ≡ place_of number (flat_resting self.now) }
+        ensures none { IfNone result (order_of number (flat_resting self.now) ≡ None) }
+        ensures some { IfSome result (HoldsAt (λ o. order_of number (flat_resting self.now) ≡ Some o) self.now.rows.now) }
+    {
+        self.taken()
+            .binary_search_by_key(&number, |o| o.number)
+            .ok()
     }
 
     // Whether the number is above that of every order.
+    // Not `book::is_above`: that would call this type's own `Book` from within it, which the check does not cover yet.
     fn is_above(&self, number: u32) -> bool
-        requires within { self.now.count ≤ length self.now.rows.now }
-        requires ordered { in_entry_order (listed self.now) ≡ true }
-        ensures { result ≡ above_all number (listed self.now) }
+        ensures { result ≡ above_all number (flat_resting self.now) }
     {
-        above_last(number, self.get(self.count.saturating_sub(1)))
-    }
-
-    // The order of a number, with its place.
-    fn locate(&self, number: u32) -> Located
-        requires { self.now.count ≤ length self.now.rows.now }
-        ensures { Locates number self.now result }
-    {
-        let at = place_of(&self.rows[0..self.count], number);
-        Located {
-            at,
-            order: self.get(at),
-        }
-    }
-
-    // The order of this side that is served first.
-    fn first_ranked(&self, side: Side) -> Option<Order>
-        requires { self.now.count ≤ length self.now.rows.now }
-        ensures { result ≡ first_ranked side (listed self.now) }
-    {
-        first_ranked(side, &self.rows[0..self.count])
+        above_last(number, self.taken().last().copied())
     }
 
     // One order more, at the end.
     fn push(&mut self, order: Order)
-        requires { self.old.count < length self.old.rows.now }
-        ensures list { listed self.new ≡ listed self.old ++ order ∷ [] }
-        ensures count { self.new.count ≡ self.old.count + 1 }
-        ensures rows { length self.new.rows.now ≡ length self.old.rows.now }
+        requires room { HasRoom self.old }
+        requires above { above_all order.number (flat_resting self.old) ≡ true }
+        ensures list { flat_resting self.new ≡ flat_resting self.old ++ order ∷ [] }
+        ensures fixed { flat_rule self.new ≡ flat_rule self.old }
     {
         self.rows[self.count] = order;
         self.count += 1;
     }
 
-    // Another order in the place of the one at `at`.
-    fn set(&mut self, at: usize, order: Order)
-        requires { (at < self.old.count) × (self.old.count ≤ length self.old.rows.now) }
-        ensures list { listed self.new ≡ slice_set (listed self.old) at order }
-        ensures count { self.new.count ≡ self.old.count }
-        ensures rows { length self.new.rows.now ≡ length self.old.rows.now }
-    {
-        self.rows[at] = order;
-    }
-
-    // Closes up the row at `at`.
+    // Takes out the order at a place, and closes up its row.
     fn remove(&mut self, at: usize)
-        requires { (at < self.old.count) × (self.old.count ≤ length self.old.rows.now) }
-        ensures list { listed self.new ≡ remove (listed self.old) at }
-        ensures count { self.new.count ≡ self.old.count - 1 }
-        ensures rows { length self.new.rows.now ≡ length self.old.rows.now }
+        requires { at < length (flat_resting self.old) }
+        ensures list { flat_resting self.new ≡ remove (flat_resting self.old) at }
+        ensures fixed { flat_rule self.new ≡ flat_rule self.old }
+        ensures room { HasRoom self.new }
     {
-        let count = self.count;
-        self.rows.copy_within(at + 1..count, at);
-        self.count = count - 1;
-    }
-
-    // Puts an order that has a place, and whose number is above all.
-    fn put(&mut self, order: Order)
-        requires room { (length (listed self.old) < 512) × (self.old.count < length self.old.rows.now) }
-        requires ordered { in_entry_order (listed self.old) ≡ true }
-        requires above { above_all order.number (listed self.old) ≡ true }
-        ensures list { listed self.new ≡ listed self.old ++ order ∷ [] }
-        ensures kept { Keeps self.old self.new }
-    {
-        self.push(order);
-    }
-
-    // Replaces the order that was located, under a number above all.
-    fn replace(&mut self, old: u32, found: Located, order: Order, new: Replacement)
-        requires located { (Locates old self.old found) × (found.order ≡ Some order) }
-        requires few { (length (listed self.old) ≤ 512) × (self.old.count ≤ length self.old.rows.now) }
-        requires ordered { in_entry_order (listed self.old) ≡ true }
-        requires above { above_all new.number (listed self.old) ≡ true }
-        ensures list { listed self.new ≡ moved_to_end old new (Some order) (listed self.old) }
-        ensures kept { Keeps self.old self.new }
-    {
-        self.remove(found.at);
-        self.push(new.of(&order));
-    }
-
-    // Takes shares off the order that was located.
-    fn cut(&mut self, number: u32, found: Located, order: Order, shares: u32)
-        requires located { (Locates number self.old found) × (found.order ≡ Some order) }
-        requires few { (length (listed self.old) ≤ 512) × (self.old.count ≤ length self.old.rows.now) }
-        requires ordered { in_entry_order (listed self.old) ≡ true }
-        ensures list { listed self.new ≡ cut_down number shares (listed self.old) }
-        ensures kept { Keeps self.old self.new }
-    {
-        match left_of(&order, shares) {
-            None => self.remove(found.at),
-            Some(left) => self.set(found.at, left),
-        }
+        self.rows.copy_within(at + 1..self.count, at);
+        self.count -= 1;
     }
 }
 
-// A book over rows that the renter lends.
-#[derive(Drop)]
-pub struct FlatBook<'a> {
-    table: Rows<'a>,
-    ghost within: { table.count ≤ length table.rows.now },
-    ghost ordered: { in_entry_order (listed table) ≡ true },
-    ghost few: { length (listed table) ≤ 512 },
+impl<'a> Book for FlatBook<'a> {
+    ghost use Rattle.flat_book.specs.Flat.{flat_resting, flat_rule, flat_kept};
+
+    ghost resting = { λ b. flat_resting b };
+
+    ghost rule = { λ b. flat_rule b };
+
+    ghost kept = { λ b. flat_kept b };
+
+    fn put(&mut self, order: Order) -> Result<(), BookRefusal> {
+        let above = self.is_above(order.number);
+        check_put(above, order.shares, self.places(order.broker))?;
+        self.push(order);
+        Ok(())
+    }
+
+    fn replace(&mut self, old: u32, new: Replacement) -> Result<(), BookRefusal> {
+        let above = self.is_above(new.number);
+        let at = check_replace(above, new.shares, self.place_of(old))?;
+        let order = self.rows[at];
+        self.remove(at);
+        self.push(new.of(&order));
+        Ok(())
+    }
+
+    fn cut(&mut self, number: u32, shares: u32) -> Result<(), BookRefusal> {
+        let at = self.place_of(number).ok_or(BookRefusal::NotResting)?;
+        // the place is needed too, so the order that is checked is one that was found
+        let order = check_cut(Some(self.rows[at]), shares)?;
+        match left_of(&order, shares) {
+            Some(left) => self.rows[at] = left,
+            None => self.remove(at),
+        }
+        Ok(())
+    }
+
+    fn count(&self) -> usize {
+        self.taken().len()
+    }
+
+    fn get(&self, k: usize) -> Option<Order> {
+        self.taken().get(k).copied()
+    }
+
+    fn find(&self, number: u32) -> Option<Order> {
+        let at = self.place_of(number)?;
+        Some(self.rows[at])
+    }
+
+    fn first_ranked(&self, side: Side) -> Option<Order> {
+        first_ranked(side, self.taken())
+    }
+
+    fn places(&self, broker: u32) -> usize {
+        row_places(self.rows.len(), self.count)
+    }
 }

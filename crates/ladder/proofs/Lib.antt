@@ -1,5 +1,4 @@
 pub mod Rounding
 pub mod Runs
 pub mod Tables
-pub mod EvenTable
-pub mod BandTable
+pub mod Holding

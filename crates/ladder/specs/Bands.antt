@@ -1,5 +1,5 @@
 -- The banded ladder's table: where each band starts, and the step between its prices.
-use Rattle.std.specs.Prelude.{ℕ, ◌-◌, ◌/◌, List, [], ◌∷◌, ◌++◌}
+use Rattle.std.specs.Prelude.{ℕ, ◌-◌, ◌/◌, cond, nat_le, List, [], ◌∷◌, ◌++◌}
 use Rattle.ladder.specs.Prices.{prices_from}
 use Rattle.ladder.specs.declared.Band.{Band}
 
@@ -17,6 +17,11 @@ abbrev pub prices_of : List Band → ℕ → List ℕ
 prices_of [] last = last ∷ []
 prices_of (b ∷ rest) last =
     prices_from b.start b.step ((end_before rest last - b.start) / b.step) ++ prices_of rest last
+
+-- the last band of the table that starts at or below n, or `found` where none does
+abbrev pub band_holding : Band → List Band → ℕ → Band
+band_holding found [] n = found
+band_holding found (b ∷ rest) n = band_holding (cond (nat_le b.start n) b found) rest n
 
 -- the first band
 abbrev pub first_band : Band

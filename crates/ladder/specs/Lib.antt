@@ -1,5 +1,5 @@
 pub mod Prices
 pub mod Nearest
 pub mod Bands
-pub mod Steps
 pub mod Sound
+pub mod TablePrices

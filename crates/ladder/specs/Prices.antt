@@ -1,11 +1,10 @@
 -- What a price ladder is: a rising list of legal prices, in thousandths of a dollar.
-use Rattle.std.specs.Prelude.{ℕ, zero, suc, ◌+◌, ◌<◌, ◌≤◌, min, max, Bool, false, cond, ◌||◌, List, [], ◌∷◌, length, Some, None, Option, ◌==◌, nat_le}
-use Rattle.std.specs.List.{AllByRecursion}
+use Rattle.std.specs.Prelude.{ℕ, zero, suc, ◌+◌, ◌<◌, ◌≤◌, min, max, Bool, false, ◌||◌, List, [], ◌∷◌, length, reverse, Option, ◌==◌, nat_le, All, AllPairs}
+use Rattle.std.specs.List.{find}
 
 -- each price is below all that follow it
 abbrev pub Rising : List ℕ → Type 0
-Rising [] = Unit {0}
-Rising (p ∷ ps) = AllByRecursion (λ q. p < q) ps × Rising ps
+Rising prices = AllPairs (λ p q. p < q) prices
 
 -- no legal price is above this
 abbrev pub price_limit : ℕ
@@ -15,27 +14,20 @@ price_limit = 10_000_000
 pub record Lawful (prices : List ℕ) : Type 0 where
   pub rising : Rising prices
   pub never_empty : 0 < length prices
-  pub within : AllByRecursion (λ p. (1 ≤ p) × (p ≤ price_limit)) prices
+  pub within : All (λ p. (1 ≤ p) × (p ≤ price_limit)) prices
 
 -- the price stands in the list
 abbrev pub legal : ℕ → List ℕ → Bool
 legal price [] = false
 legal price (p ∷ ps) = price == p || legal price ps
 
--- the first answer, or the second where it is absent
-abbrev pub or_else : Option ℕ → Option ℕ → Option ℕ
-or_else (Some p) other = Some p
-or_else None other = other
-
 -- the last of the rising prices that is at or below n
 abbrev pub highest_at_or_below : ℕ → List ℕ → Option ℕ
-highest_at_or_below n [] = None
-highest_at_or_below n (p ∷ ps) = or_else (highest_at_or_below n ps) (cond (nat_le p n) (Some p) None)
+highest_at_or_below n prices = find (λ p. nat_le p n) (reverse prices)
 
 -- the first of the rising prices that is at or above n
 abbrev pub lowest_at_or_above : ℕ → List ℕ → Option ℕ
-lowest_at_or_above n [] = None
-lowest_at_or_above n (p ∷ ps) = cond (nat_le n p) (Some p) (lowest_at_or_above n ps)
+lowest_at_or_above n prices = find (nat_le n) prices
 
 -- start, start + step, and so on: count prices
 abbrev pub prices_from : ℕ → ℕ → ℕ → List ℕ

@@ -1,35 +1,41 @@
 -- What makes a table of bands a ladder, and that the even and the banded ladder are ones. It stands here, and not among
 -- the proofs, since a ladder hands out its own proof of what it owes. Assumes nothing.
-use Rattle.std.specs.Prelude.{◌≡◌, ℕ, zero, suc, ◌+◌, ◌-◌, ◌*◌, ◌/◌, ◌%◌, ◌<◌, ◌≤◌, Bool, true, ◌&&◌, List, [], ◌∷◌, ◌++◌, length, ◌==◌, nat_le, nat_lt, refl}
+use Rattle.std.specs.Prelude.{◌≡◌, ℕ, zero, suc, ◌+◌, ◌-◌, ◌*◌, ◌/◌, ◌%◌, ◌<◌, ◌≤◌, Bool, true, ◌&&◌, List, [], ◌∷◌, ◌++◌, length, ◌==◌, nat_le, nat_lt, refl, All}
 use Rattle.std.proofs.Common.{sym, ap, ◌∙◌, subst, mul-suc, mul-le-mul, arith, lit≤}
 use Rattle.std.proofs.Math.Nat.{div-add-mod, mul-div_cancel_left, mul-mod_right}
-use Rattle.std.specs.List.{AllByRecursion}
-use Rattle.std.proofs.ByRecursion.{All-weaker, All-append}
+use Rattle.std.proofs.lemmas.List.Elements.{All-nil, All-cons, All-tail, All-append}
+use Rattle.std.proofs.lemmas.List.Kept.{AllPairs-cons}
 use Rattle.std.proofs.lemmas.Bool.{le-leb, lt-ltb, ltb-true, leb-true, eqb-true, eq-eqb, and_parts}
 use Rattle.ladder.specs.Bands.{band, end_before, prices_of, first_band, higher_bands, last_price, banded_prices}
 use Rattle.ladder.specs.Prices.{Rising, Lawful, price_limit, prices_from, even_prices}
 use Rattle.ladder.specs.declared.Band.{Band}
 
+-- the first of a rising list is below the others, and they rise
+pub rising_first : (p : ℕ) (ps : List ℕ) → Rising (p ∷ ps) → All (λ q. p < q) ps
+rising_first p ps r k e lt = r zero (suc k) e (omega arith) (omega arith)
+
+pub rising_rest : (p : ℕ) (ps : List ℕ) → Rising (p ∷ ps) → Rising ps
+rising_rest p ps r i j e lt within = r (suc i) (suc j) e (omega arith) (omega arith)
+
 -- a run's prices are at or above its start
-pub run_above : (a d k : ℕ) → AllByRecursion (λ q. a ≤ q) (prices_from a d k)
-run_above a d zero = tt
-run_above a d (suc k) = (omega arith, All-weaker (λ q. a + d ≤ q) (λ q. a ≤ q) (λ q h. omega arith) (prices_from (a + d) d k) (run_above (a + d) d k))
+pub run_above : (a d k : ℕ) → All (λ q. a ≤ q) (prices_from a d k)
+run_above a d zero i e lt = absurd (omega arith)
+run_above a d (suc k) zero e lt = omega arith
+run_above a d (suc k) (suc i) e lt = omega (arith, run_above (a + d) d k i e (omega arith))
 
 -- a run's prices are below the price that would follow it
-pub run_below : (a d k : ℕ) → 0 < d → AllByRecursion (λ q. q < a + d * k) (prices_from a d k)
-run_below a d zero pos = tt
-run_below a d (suc k) pos = (
-  omega (arith, mul-suc d k),
-  All-weaker (λ q. q < a + d + d * k) (λ q. q < a + d * suc k) (λ q h. omega (arith, mul-suc d k)) (prices_from (a + d) d k) (run_below (a + d) d k pos),
-)
+pub run_below : (a d k : ℕ) → 0 < d → All (λ q. q < a + d * k) (prices_from a d k)
+run_below a d zero pos i e lt = absurd (omega arith)
+run_below a d (suc k) pos zero e lt = omega (arith, mul-suc d k)
+run_below a d (suc k) pos (suc i) e lt = omega (arith, mul-suc d k, run_below (a + d) d k pos i e (omega arith))
 
 -- a run rises
 pub run_rising : (a d k : ℕ) → 0 < d → Rising (prices_from a d k)
-run_rising a d zero pos = tt
-run_rising a d (suc k) pos = (
-  All-weaker (λ q. a + d ≤ q) (λ q. a < q) (λ q h. omega arith) (prices_from (a + d) d k) (run_above (a + d) d k),
-  run_rising (a + d) d k pos,
-)
+run_rising a d zero pos = λ i j e lt within. absurd (omega arith)
+run_rising a d (suc k) pos =
+    AllPairs-cons (λ p q. p < q) a (prices_from (a + d) d k)
+    (λ i e lt. omega (arith, run_above (a + d) d k i e lt))
+    (run_rising (a + d) d k pos)
 
 -- a run that goes on begins with its start
 pub run_starts : (a d k e : ℕ) (zs : List ℕ) → e ≡ a + d * k → (ws : List ℕ) × (prices_from a d k ++ e ∷ zs ≡ a ∷ ws)
@@ -86,19 +92,18 @@ first b rest last h =
     }
 
 -- the table's prices are at or above its first start
-pub table_above : (bs : List Band) (last : ℕ) → sound bs last ≡ true → AllByRecursion (λ q. end_before bs last ≤ q) (prices_of bs last)
-table_above [] last ok = (omega arith, tt)
+pub table_above : (bs : List Band) (last : ℕ) → sound bs last ≡ true → All (λ q. end_before bs last ≤ q) (prices_of bs last)
+table_above [] last ok = All-cons (λ q. last ≤ q) last [] (omega arith) (All-nil (λ q. last ≤ q))
 table_above (b ∷ rest) last ok =
     let f = first b rest last ok in
     All-append (λ q. b.start ≤ q) (run b rest last) (prices_of rest last)
     (run_above b.start b.step (count b (end_before rest last)))
-    (All-weaker (λ q. end_before rest last ≤ q) (λ q. b.start ≤ q) (λ q h. omega (arith, f.start_below)) (prices_of rest last) (table_above rest last f.rest_sound))
+    (λ i e lt. omega (arith, f.start_below, table_above rest last f.rest_sound i e lt))
 
 -- a band's prices are below its end
-pub band_below : (b : Band) (rest : List Band) (last : ℕ) → First b rest last → AllByRecursion (λ q. q < end_before rest last) (run b rest last)
-band_below b rest last f =
-    subst (λ (e : ℕ). AllByRecursion (λ q. q < e) (run b rest last)) (sym f.whole_steps)
-    (run_below b.start b.step (count b (end_before rest last)) f.step_positive)
+pub band_below : (b : Band) (rest : List Band) (last : ℕ) → First b rest last → All (λ q. q < end_before rest last) (run b rest last)
+band_below b rest last f i e lt =
+    omega (arith, f.whole_steps, run_below b.start b.step (count b (end_before rest last)) f.step_positive i e lt)
 
 -- the first start is at or below the last price
 pub start_low : (bs : List Band) (last : ℕ) → sound bs last ≡ true → end_before bs last ≤ last
@@ -108,25 +113,25 @@ start_low (b ∷ rest) last ok =
     omega (arith, f.start_below, start_low rest last f.rest_sound)
 
 -- the table's prices are at or below its last price
-pub table_below : (bs : List Band) (last : ℕ) → sound bs last ≡ true → AllByRecursion (λ q. q ≤ last) (prices_of bs last)
-table_below [] last ok = (omega arith, tt)
+pub table_below : (bs : List Band) (last : ℕ) → sound bs last ≡ true → All (λ q. q ≤ last) (prices_of bs last)
+table_below [] last ok = All-cons (λ q. q ≤ last) last [] (omega arith) (All-nil (λ q. q ≤ last))
 table_below (b ∷ rest) last ok =
     let f = first b rest last ok in
     All-append (λ q. q ≤ last) (run b rest last) (prices_of rest last)
-    (All-weaker (λ q. q < end_before rest last) (λ q. q ≤ last) (λ q h. omega (arith, start_low rest last f.rest_sound))
-    (run b rest last) (band_below b rest last f))
+    (λ i e lt. omega (arith, start_low rest last f.rest_sound, band_below b rest last f i e lt))
     (table_below rest last f.rest_sound)
 
 -- two rising lists rise in a row, if e lies above the first and not above the second
-rising_append : (e : ℕ) (xs ys : List ℕ) → Rising xs → Rising ys → AllByRecursion (λ q. q < e) xs → AllByRecursion (λ q. e ≤ q) ys → Rising (xs ++ ys)
+rising_append : (e : ℕ) (xs ys : List ℕ) → Rising xs → Rising ys → All (λ q. q < e) xs → All (λ q. e ≤ q) ys → Rising (xs ++ ys)
 rising_append e [] ys rx ry below above = ry
-rising_append e (x ∷ xs) ys rx ry below above = (
-  All-append (λ q. x < q) xs ys rx.0 (All-weaker (λ q. e ≤ q) (λ q. x < q) (λ q h. omega (arith, below.0)) ys above),
-  rising_append e xs ys rx.1 ry below.1 above,
-)
+rising_append e (x ∷ xs) ys rx ry below above =
+    let less : x < e = below 0 x (omega arith) in
+    AllPairs-cons (λ p q. p < q) x (xs ++ ys)
+    (All-append (λ q. x < q) xs ys (rising_first x xs rx) (λ i d lt. omega (arith, above i d lt)))
+    (rising_append e xs ys (rising_rest x xs rx) ry (All-tail (λ q. q < e) x xs below) above)
 
 pub table_rising : (bs : List Band) (last : ℕ) → sound bs last ≡ true → Rising (prices_of bs last)
-table_rising [] last ok = (tt, tt)
+table_rising [] last ok = λ i j e lt within. absurd (omega arith)
 table_rising (b ∷ rest) last ok =
     let f = first b rest last ok in
     rising_append (end_before rest last) (run b rest last) (prices_of rest last)
@@ -143,9 +148,8 @@ table_starts (b ∷ rest) last ok =
     (r.0, ap (λ ps. run b rest last ++ ps) s.1 ∙ r.1)
 
 -- two facts of every price, as one
-pub all_both : (P Q : ℕ → Type 0) (xs : List ℕ) → AllByRecursion P xs → AllByRecursion Q xs → AllByRecursion (λ q. P q × Q q) xs
-all_both P Q [] p q = tt
-all_both P Q (x ∷ xs) p q = ((p.0, q.0), all_both P Q xs p.1 q.1)
+pub all_both : (P Q : ℕ → Type 0) (xs : List ℕ) → All P xs → All Q xs → All (λ q. P q × Q q) xs
+all_both P Q xs p q i e lt = (p i e lt, q i e lt)
 
 -- what every ladder keeps, of a sound table
 pub table_lawful : (b : Band) (rest : List Band) (last : ℕ) → sound (b ∷ rest) last ≡ true → 1 ≤ b.start → last ≤ price_limit → Lawful (prices_of (b ∷ rest) last)
@@ -155,8 +159,8 @@ table_lawful b rest last ok low high =
       rising = table_rising (b ∷ rest) last ok;
       never_empty = subst (λ (ps : List ℕ). 0 < length ps) (sym s.1) (omega arith);
       within = all_both (λ q. 1 ≤ q) (λ q. q ≤ price_limit) (prices_of (b ∷ rest) last)
-          (All-weaker (λ q. b.start ≤ q) (λ q. 1 ≤ q) (λ q h. omega arith) (prices_of (b ∷ rest) last) (table_above (b ∷ rest) last ok))
-          (All-weaker (λ q. q ≤ last) (λ q. q ≤ price_limit) (λ q h. omega arith) (prices_of (b ∷ rest) last) (table_below (b ∷ rest) last ok));
+          (λ i e lt. omega (arith, table_above (b ∷ rest) last ok i e lt))
+          (λ i e lt. omega (arith, table_below (b ∷ rest) last ok i e lt));
     }
 
 -- the distance from the first multiple to the last

@@ -1,9 +1,9 @@
-ghost use Rattle.std.specs.Prelude.{◌≡◌, ◌*◌, ◌≤◌};
-ghost use Rattle.ladder.specs.Bands.{band};
+ghost use Rattle.std.specs.Prelude.{◌≡◌, ◌≤◌};
+ghost use Rattle.ladder.specs.TablePrices.{table_prices};
 ghost use Rattle.ladder.specs.Prices.{even_prices, clamped};
 ghost use Rattle.ladder.specs.Sound.{even_lawful};
 
-use crate::{Band, Ladder, is_answer};
+use crate::{Band, Bands, Ladder};
 
 // The largest step and the largest count of an even ladder.
 const MAX_STEP: u32 = 10_000;
@@ -30,21 +30,18 @@ impl EvenLadder {
         }
     }
 
-    // The one band of the ladder.
-    fn band(&self) -> Band
-        ensures { result ≡ band self.now.step self.now.step }
+    // The ladder's one band, from the step itself to the last price.
+    fn bands(&self) -> Bands<'static>
+        ensures { table_prices result ≡ even_prices self.now.step self.now.count }
     {
-        Band {
-            start: self.step,
-            step: self.step,
+        Bands {
+            first: Band {
+                start: self.step,
+                step: self.step,
+            },
+            higher: &[],
+            last: self.step * self.count,
         }
-    }
-
-    // The highest price of the ladder.
-    fn last(&self) -> u32
-        ensures { result ≡ self.now.step * self.now.count }
-    {
-        self.step * self.count
     }
 }
 
@@ -54,22 +51,10 @@ impl Ladder for EvenLadder {
     ghost lawful = { λ l. even_lawful l.step l.count l.step_range l.count_range };
 
     fn round_down(&self, n: u32) -> Option<u32> {
-        if n < self.step {
-            None
-        } else {
-            Some(self.band().down(n.min(self.last())))
-        }
+        self.bands().round_down(n)
     }
 
     fn round_up(&self, n: u32) -> Option<u32> {
-        if n > self.last() {
-            None
-        } else {
-            Some(self.band().up(n.max(self.step)))
-        }
-    }
-
-    fn is_legal(&self, price: u32) -> bool {
-        is_answer(price, self.round_down(price))
+        self.bands().round_up(n)
     }
 }

@@ -1,10 +1,12 @@
 // Price ladders: which prices are legal, and the legal prices nearest to a number. Prices are whole thousandths of a dollar.
 #![tactic(auto)]
 
-ghost use Rattle.std.specs.Prelude.{◌≡◌, ℕ, ◌+◌, ◌^◌, ◌<◌, ◌≤◌, List};
+ghost use Rattle.std.specs.List.{find};
+ghost use Rattle.std.specs.Prelude.{◌≡◌, ℕ, ◌<◌, ◌≤◌, true, List, ◌∷◌, nat_le, reverse};
+ghost use Rattle.ladder.specs.Bands.{band_holding};
 ghost use Rattle.ladder.specs.Nearest.{NearestBelow, NearestAbove};
-ghost use Rattle.ladder.specs.Prices.{Lawful, legal, highest_at_or_below, lowest_at_or_above};
-ghost use Rattle.ladder.specs.Steps.{remainder, rounded_down, rounded_up};
+ghost use Rattle.ladder.specs.Prices.{Lawful, price_limit, legal, highest_at_or_below, lowest_at_or_above};
+ghost use Rattle.ladder.specs.Sound.{sound};
 
 mod banded;
 mod even;
@@ -30,7 +32,10 @@ pub trait Ladder {
 
     // Whether `price` is legal.
     fn is_legal(&self, price: u32) -> bool
-        ensures { result ≡ legal price (prices self.now) };
+        ensures { result ≡ legal price (prices self.now) }
+    {
+        self.round_down(price) == Some(price)
+    }
 }
 
 // Prices one step apart, from a start on.
@@ -40,38 +45,58 @@ struct Band {
     step: u32,
 }
 
-impl Band {
-    // What rounding `n` down takes off.
-    fn remainder(self, n: u32) -> u32
-        requires { (self.start ≤ n) × (0 < self.step) }
-        ensures { result ≡ remainder self n }
-    {
-        (n - self.start) % self.step
-    }
-
-    // The band's price at or below `n`.
-    fn down(self, n: u32) -> u32
-        requires { (self.start ≤ n) × (0 < self.step) }
-        ensures { result ≡ rounded_down self n }
-    {
-        n - self.remainder(n)
-    }
-
-    // The band's price at or above `n`.
-    fn up(self, n: u32) -> u32
-        requires { (self.start ≤ n) × ((0 < self.step) × (n + self.step < 2 ^ 32)) }
-        ensures { result ≡ rounded_up self n }
-    {
-        let over = self.remainder(n);
-        if over == 0 { n } else { n - over + self.step }
-    }
+// The highest of the bands that starts at or below `n`.
+fn highest_band(bands: &[Band], n: u32) -> Option<Band>
+    ensures { result ≡ find (λ b. nat_le b.start n) (reverse bands.now) }
+{
+    bands.iter().rev().copied().find(|b| b.start <= n)
 }
 
-// Whether a price is the answer of rounding itself down.
-fn is_answer(price: u32, rounded: Option<u32>) -> bool
-    ensures { (prices : List ℕ) → Lawful prices → rounded ≡ highest_at_or_below price prices → result ≡ legal price prices }
-{
-    rounded == Some(price)
+// The bands of a ladder, each up to the start of the next one, and the highest one up to the last price.
+#[derive(Clone, Copy)]
+struct Bands<'a> {
+    first: Band,
+    higher: &'a [Band],
+    last: u32,
+    ghost sound: { sound (first ∷ higher.now) last ≡ true },
+    ghost within: { last ≤ price_limit },
+}
+
+impl Bands<'_> {
+    ghost use Rattle.ladder.specs.TablePrices.{table_prices};
+
+    // The highest band that starts at or below `n`, or the first band.
+    fn band_at(&self, n: u32) -> Band
+        ensures holds { result ≡ band_holding self.now.first self.now.higher.now n }
+        ensures starts { self.now.first.start ≤ n → result.start ≤ n }
+        ensures steps { (0 < result.step) × (result.step ≤ self.now.last) }
+    {
+        highest_band(self.higher, n).unwrap_or(self.first)
+    }
+
+    // The highest price at or below `n`.
+    fn round_down(&self, n: u32) -> Option<u32>
+        ensures { result ≡ highest_at_or_below n (table_prices self.now) }
+    {
+        if n < self.first.start {
+            return None;
+        }
+        let n = n.min(self.last);
+        let band = self.band_at(n);
+        Some(n - (n - band.start) % band.step)
+    }
+
+    // The lowest price at or above `n`.
+    fn round_up(&self, n: u32) -> Option<u32>
+        ensures { result ≡ lowest_at_or_above n (table_prices self.now) }
+    {
+        if n > self.last {
+            return None;
+        }
+        let n = n.max(self.first.start);
+        let band = self.band_at(n);
+        Some(band.start + (n - band.start).next_multiple_of(band.step))
+    }
 }
 
 // The legal prices nearest to `n`: the highest at or below it, and the lowest at or above it.

@@ -1,9 +1,8 @@
 // Reads orders from standard input and prints the report on their auction.
 #![tactic(auto)]
 
-use anyhow::anyhow;
 use ladder::BandedLadder;
-use order_text::{ReadError, bad_line_text};
+use order_text::ReadError;
 use price_report::report;
 use std::io::Read;
 use std::process::ExitCode;
@@ -18,10 +17,9 @@ fn main(rt: HostRuntime) -> anyhow::Result<ExitCode> {
             Ok(ExitCode::SUCCESS)
         }
         Err(ReadError::Bad(line)) => {
-            let message = bad_line_text(heap, &line)?;
-            rt.eprint(message.as_str())?;
+            rt.eprint(line)?;
             Ok(ExitCode::FAILURE)
         }
-        Err(ReadError::NoMemory) => Err(anyhow!("there is not enough memory")),
+        Err(e @ ReadError::NoMemory) => Err(e.into()),
     }
 }

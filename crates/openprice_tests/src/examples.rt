@@ -183,13 +183,11 @@ fn refused(
     line: usize,
     fault: Fault,
 ) -> Result<(), Fail> {
-    match read(heap, &BandedLadder, text.as_bytes()) {
-        Ok(_) => Err(Fail::new(text)),
-        Err(e) => {
-            assert_eq!(rt; e, ReadError::Bad(BadLine { line, fault }), "{}", text);
-            Ok(())
-        },
-    }
+    let Err(e) = read(heap, &BandedLadder, text.as_bytes()) else {
+        return Err(Fail::new(text));
+    };
+    assert_eq!(rt; e, ReadError::Bad(BadLine { line, fault }), "{}", text);
+    Ok(())
 }
 
 #[test]

@@ -1,24 +1,27 @@
 -- The plain text of a request is read back. Assumes nothing.
-use Rattle.std.proofs.Common.{◌≡◌, ℕ, ◌+◌, ◌-◌, ◌*◌, ◌/◌, ◌%◌, ◌^◌, ◌<◌, ◌≤◌, Bool, true, false, not, ◌||◌, List, [], ◌∷◌, ◌++◌, length, Some, None, Ok, codes, decimal, Option, Result, sym, refl, ap, ◌∙◌, subst, inl, inr, mod-lt, arith}
-use Rattle.std.specs.List.{flat_map}
+use Rattle.std.proofs.Common.{◌≡◌, ℕ, ◌+◌, ◌-◌, ◌*◌, ◌/◌, ◌%◌, ◌^◌, ◌<◌, ◌≤◌, Bool, true, false, ◌||◌, List, [], ◌∷◌, ◌++◌, length, Some, None, Ok, codes, decimal, Option, Result, sym, refl, ap, ◌∙◌, subst, inl, inr, mod-lt, one-add, arith}
+use Rattle.std.specs.List.{flat_map, slice_split, onto_first, before_first}
 use Rattle.std.specs.Str.{bytes_eq}
 use Rattle.std.proofs.lemmas.List.{append-nil, append_assoc, length_push}
 use Rattle.std.proofs.lemmas.Slice.Eq.{bytes_eq-Decides}
 use Rattle.std.proofs.lemmas.Fmt.{decimal_by_steps, decimal_nonempty, length-decimal-le}
-use Rattle.std.proofs.lemmas.Bool.{cond-true, cond-false, and_from, ne_eqb, or_from, not_from_false, cases_Bool, le-leb, lt-ltb, or_parts}
-use Rattle.words.specs.Cutting.{newline, hash, blank, front, onto, pieces, without_empty, lines, words, said, digit, read_on, number_in}
+use Rattle.std.proofs.lemmas.Bool.{cond-true, cond-false, and_from, ne_eqb, or_from, cases_Bool, le-leb, lt-ltb, or_parts}
+use Rattle.words.specs.Cutting.{and_then, newline, hash, blank, without_empty, lines, words, said, nothing_after, digit, read_on, number_in}
 use Rattle.order_text.specs.Asking.{Asked, nothing_asked, entry, with_saying, at_line, with_line, with_lines, read_text, Gives}
-use Rattle.order_text.specs.Meaning.{and_then, as_shares, shares_in, nothing_after, as_price, price_in, kind_in, kind_line, trade_line, line_says}
+use Rattle.order_text.specs.Meaning.{as_shares, shares_in, as_price, price_in, kind_in, kind_line, trade_line, line_says}
 use Rattle.order_text.specs.Listing.{side_word, kind_word, order_words, order_line, close_words, close_text, Legal, LegalKind, Good, AllGood, LegalClose, ReadsBack}
 use Rattle.order_text.specs.declared.reading.ReadError.{ReadError}
 use Rattle.order_text.specs.declared.reading.Request.{Request}
 use Rattle.order_text.specs.declared.Saying.TheVariants.{Close, Trade}
+use Rattle.order_text.specs.declared.faults.Fault.TheVariants.{WordTooMany}
 use Rattle.order.specs.declared.Kind.{Kind}
 use Rattle.order.specs.declared.Kind.TheVariants.{AtAuction, Limit}
 use Rattle.order.specs.declared.Order.{Order}
 use Rattle.order.specs.declared.Side.{Side}
 use Rattle.order.specs.declared.Side.TheVariants.{Buy, Sell}
-use Rattle.words.proofs.Figures.{digit_yes, number_is}
+
+digit_yes : (b : ℕ) → 48 ≤ b → b ≤ 57 → digit b ≡ true
+digit_yes b low high = and_from _ _ (le-leb 48 b low) (le-leb b 57 high)
 
 -- one digit more at the end
 read_push : (k m b : ℕ) (ds : List ℕ) → digit b ≡ true → read_on k ds ≡ Some m → read_on k (ds ++ (b ∷ [])) ≡ Some (m * 10 + (b - 48))
@@ -40,7 +43,7 @@ read_decimal =
 number_decimal : (n : ℕ) → n < 100000000 → number_in (decimal n) ≡ Some n
 number_decimal n h =
     let small : n < 2 ^ 64 = omega arith in
-    sym (number_is (decimal n) (λ e. omega (arith, decimal_nonempty n small)) (length-decimal-le 8 n (omega arith) h small)) ∙ read_decimal n small
+    cond-true _ _ _ (and_from _ _ (le-leb 1 (length (decimal n)) (omega (arith, decimal_nonempty n small))) (le-leb (length (decimal n)) 8 (length-decimal-le 8 n (omega arith) h small))) ∙ read_decimal n small
 
 -- no byte of the list passes the test
 abbrev Free : (ℕ → Bool) → List ℕ → Type 0
@@ -52,17 +55,17 @@ module _ (p : ℕ → Bool) where
   free_append [] ys f g = g
   free_append (x ∷ xs) ys f g = (f.0, free_append xs ys f.1 g)
 
-  pieces_one : (xs : List ℕ) → Free p xs → pieces p xs ≡ xs ∷ []
+  pieces_one : (xs : List ℕ) → Free p xs → slice_split p xs ≡ xs ∷ []
   pieces_one [] f = refl
-  pieces_one (x ∷ xs) f = cond-false _ _ _ f.0 ∙ ap (onto x) (pieces_one xs f.1)
+  pieces_one (x ∷ xs) f = cond-false _ _ _ f.0 ∙ ap (onto_first x) (pieces_one xs f.1)
 
-  pieces_more : (xs ys : List ℕ) (s : ℕ) → Free p xs → p s ≡ true → pieces p (xs ++ (s ∷ ys)) ≡ xs ∷ pieces p ys
+  pieces_more : (xs ys : List ℕ) (s : ℕ) → Free p xs → p s ≡ true → slice_split p (xs ++ (s ∷ ys)) ≡ xs ∷ slice_split p ys
   pieces_more [] ys s f t = cond-true _ _ _ t
-  pieces_more (x ∷ xs) ys s f t = cond-false _ _ _ f.0 ∙ ap (onto x) (pieces_more xs ys s f.1 t)
+  pieces_more (x ∷ xs) ys s f t = cond-false _ _ _ f.0 ∙ ap (onto_first x) (pieces_more xs ys s f.1 t)
 
-  front_free : (xs : List ℕ) → Free p xs → front (λ b. not (p b)) xs ≡ xs
+  front_free : (xs : List ℕ) → Free p xs → before_first p xs ≡ xs
   front_free [] f = refl
-  front_free (x ∷ xs) f = cond-true _ _ _ (not_from_false (p x) f.0) ∙ ap (λ l. x ∷ l) (front_free xs f.1)
+  front_free (x ∷ xs) f = rw f.0 (rw one-add (ap (λ l. x ∷ l) (front_free xs f.1)))
 
 keeps : (w : List ℕ) (ts : List (List ℕ)) → 0 < length w → without_empty (w ∷ ts) ≡ w ∷ without_empty ts
 keeps [] ts h = absurd (omega arith)
@@ -77,12 +80,12 @@ pub record Plain (w : List ℕ) : Type 0 where
 
 two_words : (u v : List ℕ) → Plain u → Plain v → words (u ++ (32 ∷ v)) ≡ u ∷ v ∷ []
 two_words u v pu pv =
-    let cut : pieces blank (u ++ (32 ∷ v)) ≡ u ∷ v ∷ [] = pieces_more blank u v 32 pu.in_word refl ∙ ap (λ ts. u ∷ ts) (pieces_one blank v pv.in_word) in
+    let cut : slice_split blank (u ++ (32 ∷ v)) ≡ u ∷ v ∷ [] = pieces_more blank u v 32 pu.in_word refl ∙ ap (λ ts. u ∷ ts) (pieces_one blank v pv.in_word) in
     ap without_empty cut ∙ keeps u (v ∷ []) pu.long ∙ ap (λ ts. u ∷ ts) (keeps v [] pv.long)
 
 three_words : (u v w : List ℕ) → Plain u → Plain v → Plain w → words (u ++ (32 ∷ (v ++ (32 ∷ w)))) ≡ u ∷ v ∷ w ∷ []
 three_words u v w pu pv pw =
-    let cut : pieces blank (u ++ (32 ∷ (v ++ (32 ∷ w)))) ≡ u ∷ v ∷ w ∷ [] =
+    let cut : slice_split blank (u ++ (32 ∷ (v ++ (32 ∷ w)))) ≡ u ∷ v ∷ w ∷ [] =
     pieces_more blank u (v ++ (32 ∷ w)) 32 pu.in_word refl
     ∙ ap (λ ts. u ∷ ts) (pieces_more blank v w 32 pv.in_word refl ∙ ap (λ ts. v ∷ ts) (pieces_one blank w pw.in_word)) in
     ap without_empty cut ∙ keeps u (v ∷ w ∷ []) pu.long ∙ ap (λ ts. u ∷ ts) (keeps v (w ∷ []) pv.long ∙ ap (λ ts. v ∷ ts) (keeps w [] pw.long))
@@ -148,7 +151,7 @@ module _ (prices : List ℕ) where
       ∙ ap (λ r. and_then r (λ p. Ok (Limit p))) (price_back price h)
 
   line_back : (side : Side) (shares : ℕ) (kind : Kind) → 1 ≤ shares → shares ≤ 30000000 → LegalKind prices kind → line_says prices (side_word side ∷ decimal shares ∷ kind_word kind ∷ []) ≡ Ok (Trade side shares kind)
-  line_back side shares kind some most h = begins side ∙ ap (λ r. and_then r (λ n. kind_line prices side n (kind_word kind ∷ []))) (shares_decimal shares some most) ∙ ap (λ r. and_then r (λ k. nothing_after (Trade side shares k) [])) (kind_back kind h)
+  line_back side shares kind some most h = begins side ∙ ap (λ r. and_then r (λ n. kind_line prices side n (kind_word kind ∷ []))) (shares_decimal shares some most) ∙ ap (λ r. and_then r (λ k. nothing_after WordTooMany (Trade side shares k) [])) (kind_back kind h)
     where
       begins : (side : Side) → line_says prices (side_word side ∷ decimal shares ∷ kind_word kind ∷ []) ≡ trade_line prices side (decimal shares ∷ kind_word kind ∷ [])
       begins Buy = refl
@@ -192,7 +195,7 @@ module _ (prices : List ℕ) where
   close_back price h =
       let v = plain_decimal price (omega (arith, h.0)) in
       let whole = front_free hash (close_words price) (free_append hash (codes "close") (32 ∷ decimal price) plain_close.in_text (refl, v.in_text)) in
-      let says = ap (line_says prices) (ap words whole ∙ two_words (codes "close") (decimal price) plain_close v) ∙ ap (λ r. and_then r (λ p. nothing_after (Close p) [])) (price_back price h) in
+      let says = ap (line_says prices) (ap words whole ∙ two_words (codes "close") (decimal price) plain_close v) ∙ ap (λ r. and_then r (λ p. nothing_after WordTooMany (Close p) [])) (price_back price h) in
       ap (λ r. at_line 1 (and_then r (with_saying nothing_asked))) says
 
   asked_back : (close : Option ℕ) (os : List Order) → AllGood prices 1 os → LegalClose prices close → read_text prices (close_text close ++ flat_map order_line os) ≡ Ok (record { orders = os; close = close })

@@ -9,8 +9,8 @@ use Rattle.order_text.specs.declared.faults.Fault.{Fault}
 use Rattle.order_text.specs.declared.faults.Fault.TheVariants.{TooManyOrders}
 use Rattle.order_text.specs.declared.Saying.{Saying}
 use Rattle.order_text.specs.declared.Saying.TheVariants.{Nothing, Close, Trade}
-use Rattle.words.specs.Cutting.{lines, words, said}
-use Rattle.order_text.specs.Meaning.{and_then, line_says}
+use Rattle.words.specs.Cutting.{and_then, lines, words, said}
+use Rattle.order_text.specs.Meaning.{line_says}
 use Rattle.order_text.specs.Asking.{Asked, nothing_asked, entry, with_close, with_saying, at_line, with_line, with_lines, read_text}
 
 abbrev Few : Asked → Type 0

@@ -11,8 +11,8 @@ use Rattle.order_text.specs.declared.reading.ReadError.TheVariants.{Bad, NoMemor
 use Rattle.order_text.specs.declared.reading.Request.{Request}
 use Rattle.order_text.specs.declared.Saying.{Saying}
 use Rattle.order_text.specs.declared.Saying.TheVariants.{Nothing, Close, Trade}
-use Rattle.words.specs.Cutting.{lines, words, said}
-use Rattle.order_text.specs.Meaning.{and_then, line_says}
+use Rattle.words.specs.Cutting.{and_then, lines, words, said}
+use Rattle.order_text.specs.Meaning.{line_says}
 
 -- the orders so far, and the closing price
 pub record Asked : Type 0 where

@@ -10,12 +10,7 @@ use Rattle.order_text.specs.declared.faults.Fault.{Fault}
 use Rattle.order_text.specs.declared.faults.Fault.TheVariants.{UnknownWord, WordMissing, WordTooMany, BadShares, BadPrice, PriceNotLegal}
 use Rattle.order_text.specs.declared.Saying.{Saying}
 use Rattle.order_text.specs.declared.Saying.TheVariants.{Nothing, Close, Trade}
-use Rattle.words.specs.Cutting.{number_in}
-
--- goes on where there is no fault
-abbrev pub and_then : {A B E : Type 0} → Result A E → (A → Result B E) → Result B E
-and_then (Ok x) next = next x
-and_then (Err e) next = Err e
+use Rattle.words.specs.Cutting.{and_then, nothing_after, number_in}
 
 -- a number of shares lies from 1 to 30,000,000
 abbrev pub as_shares : Option ℕ → Result ℕ Fault
@@ -25,11 +20,6 @@ as_shares (Some n) = cond (nat_le 1 n && nat_le n 30000000) (Ok n) (Err BadShare
 -- the shares that a word names
 abbrev pub shares_in : List ℕ → Result ℕ Fault
 shares_in word = as_shares (number_in word)
-
--- no word may follow
-abbrev pub nothing_after : Saying → List (List ℕ) → Result Saying Fault
-nothing_after saying [] = Ok saying
-nothing_after saying (w ∷ ws) = Err WordTooMany
 
 module _ (prices : List ℕ) where
   -- a number is a price where it is a legal one
@@ -48,12 +38,12 @@ module _ (prices : List ℕ) where
   -- after `close`: a price
   abbrev pub close_line : List (List ℕ) → Result Saying Fault
   close_line [] = Err WordMissing
-  close_line (w ∷ ws) = and_then (price_in w) (λ p. nothing_after (Close p) ws)
+  close_line (w ∷ ws) = and_then (price_in w) (λ p. nothing_after WordTooMany (Close p) ws)
 
   -- after the shares of an order: its price
   abbrev pub kind_line : Side → ℕ → List (List ℕ) → Result Saying Fault
   kind_line side shares [] = Err WordMissing
-  kind_line side shares (w ∷ ws) = and_then (kind_in w) (λ kind. nothing_after (Trade side shares kind) ws)
+  kind_line side shares (w ∷ ws) = and_then (kind_in w) (λ kind. nothing_after WordTooMany (Trade side shares kind) ws)
 
   -- after `buy` or `sell`: shares, and then a price
   abbrev pub trade_line : Side → List (List ℕ) → Result Saying Fault

@@ -1,8 +1,6 @@
 // Why a line is refused.
-ghost use Rattle.std.specs.Prelude.{◌≡◌, IfOk, string_bytes};
-ghost use Rattle.order_text.specs.FaultText.{fault_text, bad_line_text};
-
-use std::alloc::{AllocError, Global};
+use std::error::Error;
+use std::fmt;
 
 #[derive(Clone, Copy, PartialEq, Eq, Debug)]
 pub enum Fault {
@@ -21,19 +19,15 @@ pub enum Fault {
     TooManyOrders,
 }
 
-// A line that is refused. Lines count from 1.
-#[derive(Clone, Copy, PartialEq, Eq, Debug)]
-pub struct BadLine {
-    pub line: usize,
-    pub fault: Fault,
-}
+impl fmt::Display for Fault {
+    ghost use Rattle.std.specs.Prelude.{Some};
+    ghost use Rattle.order_text.specs.FaultText.{fault_text};
 
-impl Fault {
+    ghost output = { λ fault. Some (fault_text fault) };
+
     // What is wrong with the line.
-    fn message(self) -> &'static str
-        ensures { result.now ≡ fault_text self }
-    {
-        match self {
+    fn fmt<W: fmt::Write>(&self, f: &mut fmt::Formatter<W>) -> fmt::Result {
+        f.write_str(match self {
             Fault::UnknownWord => "the first word is not close, buy or sell",
             Fault::WordMissing => "a word is missing",
             Fault::WordTooMany => "there is a word too many",
@@ -43,15 +37,30 @@ impl Fault {
             Fault::PriceNotLegal => "the price is not a legal price",
             Fault::SecondClose => "there is a closing price already",
             Fault::TooManyOrders => "there are 512 orders already",
-        }
+        })
     }
 }
 
-// The message for a line that is refused.
-pub fn bad_line_text(heap: Global, bad: &BadLine) -> Result<String, AllocError>
-    ensures { IfOk result (λ s. string_bytes s ≡ bad_line_text bad.now) }
-{
-    let line = bad.line;
-    let message = bad.fault.message();
-    format!(in heap; "line {line}: {message}\n")
+impl Error for Fault {}
+
+// A line that is refused. Lines count from 1.
+#[derive(Clone, Copy, PartialEq, Eq, Debug)]
+pub struct BadLine {
+    pub line: usize,
+    pub fault: Fault,
 }
+
+impl fmt::Display for BadLine {
+    ghost use Rattle.std.specs.Prelude.{Some};
+    ghost use Rattle.order_text.specs.FaultText.{bad_line_text};
+
+    ghost output = { λ bad. Some (bad_line_text bad) };
+
+    // The message for the line, with the newline that ends it.
+    fn fmt<W: fmt::Write>(&self, f: &mut fmt::Formatter<W>) -> fmt::Result {
+        let BadLine { line, fault } = *self;
+        writeln!(f, "line {line}: {fault}")
+    }
+}
+
+impl Error for BadLine {}

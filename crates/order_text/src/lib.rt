@@ -5,17 +5,16 @@
 #![tactic(auto)]
 
 ghost use Rattle.std.specs.Prelude.{◌≡◌};
-ghost use Rattle.words.specs.Cutting.{words};
-ghost use Rattle.order_text.specs.Meaning.{shares_in, nothing_after, price_in, kind_in, close_line, trade_line, line_says};
+ghost use Rattle.order_text.specs.Meaning.{shares_in, price_in, kind_in, close_line, trade_line, line_says};
 
 use ladder::Ladder;
 use order::{Kind, Side};
-use words::{is_word, next_word, number};
+use words::{Words, is_word, number};
 
 mod faults;
 mod reading;
 
-pub use faults::{BadLine, Fault, bad_line_text};
+pub use faults::{BadLine, Fault};
 pub use reading::{ReadError, Request, read};
 
 // The most shares of an order.
@@ -34,24 +33,19 @@ enum Saying {
 fn shares_in(word: &[u8]) -> Result<u32, Fault>
     ensures { result ≡ shares_in word.now }
 {
-    match number(word) {
-        Some(n) if n >= 1 && n <= MOST_SHARES => Ok(n),
-        Some(_) | None => Err(Fault::BadShares),
-    }
+    number(word)
+        .filter(|n| (1..=MOST_SHARES).contains(n))
+        .ok_or(Fault::BadShares)
 }
 
 fn price_in<L: Ladder>(ladder: &L, word: &[u8]) -> Result<u32, Fault>
     ensures { result ≡ price_in (L.Ladder.prices ladder.now) word.now }
 {
-    match number(word) {
-        Some(price) => {
-            if ladder.is_legal(price) {
-                Ok(price)
-            } else {
-                Err(Fault::PriceNotLegal)
-            }
-        }
-        None => Err(Fault::BadPrice),
+    let price = number(word).ok_or(Fault::BadPrice)?;
+    if ladder.is_legal(price) {
+        Ok(price)
+    } else {
+        Err(Fault::PriceNotLegal)
     }
 }
 
@@ -60,62 +54,40 @@ fn kind_in<L: Ladder>(ladder: &L, word: &[u8]) -> Result<Kind, Fault>
     ensures { result ≡ kind_in (L.Ladder.prices ladder.now) word.now }
 {
     if is_word(word, b"at-auction") {
-        return Ok(Kind::AtAuction);
-    }
-    let price = price_in(ladder, word)?;
-    Ok(Kind::Limit(price))
-}
-
-// What is said, if no word follows.
-fn alone(saying: Saying, rest: &[u8]) -> Result<Saying, Fault>
-    ensures { result ≡ nothing_after saying (words rest.now) }
-{
-    match next_word(rest) {
-        None => Ok(saying),
-        Some(_) => Err(Fault::WordTooMany),
+        Ok(Kind::AtAuction)
+    } else {
+        price_in(ladder, word).map(Kind::Limit)
     }
 }
 
-// What follows `close`.
-fn close_line<L: Ladder>(ladder: &L, rest: &[u8]) -> Result<Saying, Fault>
-    ensures { result ≡ close_line (L.Ladder.prices ladder.now) (words rest.now) }
+// What follows `close`. The ladder and the words are no struct: a word is read by the ladder alone, and each function's answer is
+// one value of the two.
+fn close_line<L: Ladder>(ladder: &L, mut words: Words<'_>) -> Result<Saying, Fault>
+    ensures { result ≡ close_line (L.Ladder.prices ladder.now) words.entry }
 {
-    let Some((word, rest)) = next_word(rest) else {
-        return Err(Fault::WordMissing);
-    };
-    let price = price_in(ladder, word)?;
-    alone(Saying::Close(price), rest)
+    let price = price_in(ladder, words.next().ok_or(Fault::WordMissing)?)?;
+    words.end(Saying::Close(price), Fault::WordTooMany)
 }
 
 // What follows `buy` or `sell`.
-fn trade_line<L: Ladder>(ladder: &L, side: Side, rest: &[u8]) -> Result<Saying, Fault>
-    ensures { result ≡ trade_line (L.Ladder.prices ladder.now) side (words rest.now) }
+fn trade_line<L: Ladder>(ladder: &L, side: Side, mut words: Words<'_>) -> Result<Saying, Fault>
+    ensures { result ≡ trade_line (L.Ladder.prices ladder.now) side words.entry }
 {
-    let Some((word, rest)) = next_word(rest) else {
-        return Err(Fault::WordMissing);
-    };
-    let shares = shares_in(word)?;
-    let Some((word, rest)) = next_word(rest) else {
-        return Err(Fault::WordMissing);
-    };
-    let kind = kind_in(ladder, word)?;
-    alone(Saying::Trade(side, shares, kind), rest)
+    let shares = shares_in(words.next().ok_or(Fault::WordMissing)?)?;
+    let kind = kind_in(ladder, words.next().ok_or(Fault::WordMissing)?)?;
+    words.end(Saying::Trade(side, shares, kind), Fault::WordTooMany)
 }
 
-// What a line without its comment says.
-fn line_says<L: Ladder>(ladder: &L, line: &[u8]) -> Result<Saying, Fault>
-    ensures { result ≡ line_says (L.Ladder.prices ladder.now) (words line.now) }
+// What the words of a line say.
+fn line_says<L: Ladder>(ladder: &L, mut words: Words<'_>) -> Result<Saying, Fault>
+    ensures { result ≡ line_says (L.Ladder.prices ladder.now) words.entry }
 {
-    let Some((word, rest)) = next_word(line) else {
+    let Some(word) = words.next() else {
         return Ok(Saying::Nothing);
     };
     if is_word(word, b"close") {
-        close_line(ladder, rest)
-    } else if is_word(word, b"buy") {
-        trade_line(ladder, Side::Buy, rest)
-    } else if is_word(word, b"sell") {
-        trade_line(ladder, Side::Sell, rest)
-    } else {
-        Err(Fault::UnknownWord)
+        return close_line(ladder, words);
     }
+    let side = Side::try_from(word).map_err(|_| Fault::UnknownWord)?;
+    trade_line(ladder, side, words)
 }

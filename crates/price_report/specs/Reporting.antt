@@ -1,10 +1,10 @@
 -- The report on the orders of a text. Assumes nothing.
 use Rattle.std.specs.Prelude.{◌≡◌, ℕ, List, Ok, Err, string_bytes, Result, String}
 use Rattle.std.specs.declared.alloc.Global.{Global}
+use Rattle.words.specs.Cutting.{and_then}
 use Rattle.order_text.specs.declared.faults.BadLine.{BadLine}
 use Rattle.order_text.specs.declared.reading.ReadError.{ReadError}
 use Rattle.order_text.specs.declared.reading.ReadError.TheVariants.{Bad, NoMemory}
-use Rattle.order_text.specs.Meaning.{and_then}
 use Rattle.order_text.specs.Asking.{Asked, read_text}
 use Rattle.reasons.specs.Verdicts.{explained}
 use Rattle.price_table.specs.TableText.{table_text}

@@ -15,15 +15,12 @@ pub fn report<L: Ladder>(heap: Global, ladder: &L, text: &[u8]) -> Result<String
     ensures { Reports (report_of (L.Ladder.prices ladder.now) text.now) result }
 {
     let request = read(heap, ladder, text)?;
-    match explain(heap, request.orders.as_slice(), request.close) {
-        Ok(told) => match table(heap, told.as_slice()) {
-            Ok(text) => Ok(text),
-            Err(_) => Err(ReadError::NoMemory),
-        },
-        Err(e) => match e {
-            AuctionError::NoMemory => Err(ReadError::NoMemory),
-            // a text that is read has at most 512 orders
-            AuctionError::TooManyOrders => unreachable(),
-        },
-    }
+    // a `match`: under `map_err` the closure would have to require that the second error does not come
+    let told = match explain(heap, request.orders.as_slice(), request.close) {
+        Ok(told) => told,
+        Err(AuctionError::NoMemory) => return Err(ReadError::NoMemory),
+        // a text that is read has at most 512 orders
+        Err(AuctionError::TooManyOrders) => unreachable(),
+    };
+    Ok(table(heap, told.as_slice())?)
 }

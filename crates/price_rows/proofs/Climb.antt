@@ -1,6 +1,6 @@
 -- From any price of the range upwards there is one that an order names and that matches no less. Assumes nothing.
 use Rattle.std.proofs.Common.{◌≡◌, ℕ, zero, suc, ◌+◌, ◌≤◌, cond, ◌&&◌, ◌⊎◌, List, [], ◌∷◌, sum_by, sym, refl, ap, ◌∙◌, subst, inl, inr, arith}
-use Rattle.std.specs.List.{ContainsAt as Has}
+use Rattle.std.specs.List.{Contains}
 use Rattle.std.proofs.lemmas.List.Sums.{sum_by-cons}
 use Rattle.std.proofs.lemmas.Bool.{cases_eq}
 use Rattle.std.proofs.lemmas.Bool.Decides.{nat_tests}
@@ -12,15 +12,15 @@ use Rattle.order.specs.declared.Order.{Order}
 use Rattle.order.specs.Orders.{same_side, takes}
 use Rattle.price_rows.specs.Amounts.{shares_of, demand, supply}
 use Rattle.price_rows.specs.Reach.{matched, Rests, Names, Spans}
-use Rattle.price_rows.proofs.Members.{has_here, has_there, has_none}
+use Rattle.price_rows.proofs.Members.{Contains-here, Contains-there, Contains-nil}
 use Rattle.price_rows.proofs.Reaching.{rests_here, rests_there, rests_cons}
 
 -- sums whose parts do not fall
-sum_rises : {X : Type 0} (f g : X → ℕ) (xs : List X) → ((x : X) → Has xs x → f x ≤ g x) → sum_by f xs ≤ sum_by g xs
+sum_rises : {X : Type 0} (f g : X → ℕ) (xs : List X) → ((x : X) → Contains xs x → f x ≤ g x) → sum_by f xs ≤ sum_by g xs
 sum_rises f g [] each = omega arith
 sum_rises f g (x ∷ xs) each =
-    let rest = sum_rises f g xs (λ y h. each y (has_there x y xs h)) in
-    let here = each x (has_here x xs) in
+    let rest = sum_rises f g xs (λ y h. each y (Contains-there x y xs h)) in
+    let here = each x (Contains-here x xs) in
     omega (arith, sum_by-cons f x xs, sum_by-cons g x xs)
 
 -- no sell is lost one step up, and no buy but one whose limit is the price itself
@@ -51,7 +51,7 @@ buy_at o p Buy AtAuction s e = inr (λ r. let h = r.1 in let z : ◌≡◌ {A = 
 buy_at o p Buy (Limit l) s e = elim (cases_eq l p) [ inl f ↦ inl (s, e ∙ ap Limit f) | inr ne ↦ inr (λ r. let h = r.1 in let z : l ≡ p = cc in ne z) ]
 
 rests_or_not : (os : List Order) (p : ℕ) → Rests os Buy p ⊎ (Rests os Buy p → ⊥)
-rests_or_not [] p = inr (λ r. has_none r.0 r.1)
+rests_or_not [] p = inr (λ r. Contains-nil r.0 r.1)
 rests_or_not (o ∷ os) p = go (rests_or_not os p) (buy_at o p o.side o.kind refl refl)
   where
     go : Rests os Buy p ⊎ (Rests os Buy p → ⊥) → ((o.side ≡ Buy) × (o.kind ≡ Limit p)) ⊎ ((o.side ≡ Buy) × (o.kind ≡ Limit p) → ⊥) → Rests (o ∷ os) Buy p ⊎ (Rests (o ∷ os) Buy p → ⊥)

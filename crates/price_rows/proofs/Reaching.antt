@@ -1,7 +1,7 @@
 -- The range and the candidates in terms of the orders. Assumes nothing.
 use Rattle.std.proofs.Common.{◌≡◌, ℕ, Bool, true, false, cond, ◌⊎◌, List, [], ◌∷◌, Some, None, fold, Option, sym, refl, ap, ◌∙◌, subst, inl, inr, arith}
-use Rattle.std.specs.List.{ContainsAt as Has}
-use Rattle.std.proofs.ByRecursion.{has_append_left, has_append_right}
+use Rattle.std.specs.List.{Contains}
+use Rattle.std.proofs.lemmas.List.Elements.{Contains-append_left, Contains-append_right, Contains-append_cases}
 use Rattle.std.proofs.lemmas.Bool.{and_parts, and_from, leb-true, le-leb, both_ways}
 use Rattle.std.proofs.lemmas.Bool.Decides.{nat_tests}
 use Rattle.order.specs.declared.Side.{Side}
@@ -12,18 +12,18 @@ use Rattle.order.specs.declared.Order.{Order}
 use Rattle.order.specs.Orders.{same_side, within_limit, better_limit}
 use Rattle.price_rows.specs.Amounts.{better_of, best_with, best_limit, reached_by, in_range, named_by, named_prices, named_in_range, candidates}
 use Rattle.price_rows.specs.Reach.{Rests, Names, Spans}
-use Rattle.price_rows.proofs.Members.{has_here, has_there, has_none, has_cons, has_append_cases, kept_has, has_kept}
+use Rattle.price_rows.proofs.Members.{Contains-here, Contains-there, Contains-nil, Contains-cons_cases, Contains-from_filter, Contains-filter}
 use Rattle.price_rows.proofs.Rising.{rising_has, has_rising}
 
 pub rests_here : (o : Order) (os : List Order) (side : Side) (p : ℕ) → o.side ≡ side → o.kind ≡ Limit p → Rests (o ∷ os) side p
-rests_here o os side p s k = (o, has_here o os, s, k)
+rests_here o os side p s k = (o, Contains-here o os, s, k)
 
 pub rests_there : (o : Order) (os : List Order) (side : Side) (p : ℕ) → Rests os side p → Rests (o ∷ os) side p
-rests_there o os side p r = (r.0, has_there o r.0 os r.1, r.2, r.3)
+rests_there o os side p r = (r.0, Contains-there o r.0 os r.1, r.2, r.3)
 
 pub rests_cons : (o : Order) (os : List Order) (side : Side) (p : ℕ) → Rests (o ∷ os) side p → ((o.side ≡ side) × (o.kind ≡ Limit p)) ⊎ Rests os side p
 rests_cons o os side p r =
-    elim (has_cons o r.0 os r.1) [
+    elim (Contains-cons_cases o r.0 os r.1) [
       | inl e ↦ inl (ap (λ x. x.side) e ∙ r.2, ap (λ x. x.kind) e ∙ r.3)
       | inr later ↦ inr (r.0, later, r.2, r.3)
     ]
@@ -103,7 +103,7 @@ module _ (side : Side) (price : ℕ) where
 
   reached_to : (os : List Order) (best : Option ℕ) → (reached_by side best price ≡ true) ⊎ Reached os side price → reached_by side (fold (best_with side) best os) price ≡ true
   reached_to [] best (inl e) = e
-  reached_to [] best (inr r) = absurd (has_none r.rests.0 r.rests.1)
+  reached_to [] best (inr r) = absurd (Contains-nil r.rests.0 r.rests.1)
   reached_to (o ∷ os) best (inl e) = reached_to os (best_with side best o) (inl (best_to best o (inl e)))
   reached_to (o ∷ os) best (inr r) =
       elim (rests_cons o os side r.limit r.rests) [
@@ -130,41 +130,41 @@ module _ (os : List Order) (price : ℕ) where
       (reached_to Buy price os None (inr (record { limit = s.buy; rests = s.buys; within = le-leb price s.buy s.below })))
 
 -- the prices that limit orders name
-named_kind : (k : Kind) (p : ℕ) → Has (named_by k) p → k ≡ Limit p
-named_kind AtAuction p h = absurd (has_none p h)
-named_kind (Limit q) p h = elim (has_cons q p [] h) [ inl e ↦ ap Limit e | inr none ↦ absurd (has_none p none) ]
+named_kind : (k : Kind) (p : ℕ) → Contains (named_by k) p → k ≡ Limit p
+named_kind AtAuction p h = absurd (Contains-nil p h)
+named_kind (Limit q) p h = elim (Contains-cons_cases q p [] h) [ inl e ↦ ap Limit e | inr none ↦ absurd (Contains-nil p none) ]
 
-kind_named : (k : Kind) (p : ℕ) → k ≡ Limit p → Has (named_by k) p
-kind_named k p e = subst (λ j. Has (named_by j) p) (sym e) (has_here p [])
+kind_named : (k : Kind) (p : ℕ) → k ≡ Limit p → Contains (named_by k) p
+kind_named k p e = subst (λ j. Contains (named_by j) p) (sym e) (Contains-here p [])
 
 side_of : (o : Order) (os : List Order) (p : ℕ) (s : Side) → o.side ≡ s → o.kind ≡ Limit p → Names (o ∷ os) p
 side_of o os p Buy s k = inl (rests_here o os Buy p s k)
 side_of o os p Sell s k = inr (rests_here o os Sell p s k)
 
-pub named_names : (os : List Order) (p : ℕ) → Has (named_prices os) p → Names os p
-named_names [] p h = absurd (has_none p h)
-named_names (o ∷ os) p h = go (named_names os p) (has_append_cases (named_by o.kind) (named_prices os) p h)
+pub named_names : (os : List Order) (p : ℕ) → Contains (named_prices os) p → Names os p
+named_names [] p h = absurd (Contains-nil p h)
+named_names (o ∷ os) p h = go (named_names os p) (Contains-append_cases (named_by o.kind) (named_prices os) p h)
   where
-    go : (Has (named_prices os) p → Names os p) → Has (named_by o.kind) p ⊎ Has (named_prices os) p → Names (o ∷ os) p
+    go : (Contains (named_prices os) p → Names os p) → Contains (named_by o.kind) p ⊎ Contains (named_prices os) p → Names (o ∷ os) p
     go rest (inl here) = side_of o os p o.side refl (named_kind o.kind p here)
     go rest (inr later) = elim (rest later) [ inl b ↦ inl (rests_there o os Buy p b) | inr s ↦ inr (rests_there o os Sell p s) ]
 
-rests_named : (os : List Order) (side : Side) (p : ℕ) → Rests os side p → Has (named_prices os) p
-rests_named [] side p r = absurd (has_none r.0 r.1)
+rests_named : (os : List Order) (side : Side) (p : ℕ) → Rests os side p → Contains (named_prices os) p
+rests_named [] side p r = absurd (Contains-nil r.0 r.1)
 rests_named (o ∷ os) side p r =
     elim (rests_cons o os side p r) [
-      | inl e ↦ has_append_left (named_by o.kind) (named_prices os) p (kind_named o.kind p e.1)
-      | inr later ↦ has_append_right (named_by o.kind) (named_prices os) p (rests_named os side p later)
+      | inl e ↦ Contains-append_left (named_by o.kind) (named_prices os) p (kind_named o.kind p e.1)
+      | inr later ↦ Contains-append_right (named_by o.kind) (named_prices os) p (rests_named os side p later)
     ]
 
 -- a candidate is a price of the range that an order names
 module _ (os : List Order) (p : ℕ) where
-  pub candidate_from : Has (candidates os) p → Spans os p × Names os p
+  pub candidate_from : Contains (candidates os) p → Spans os p × Names os p
   candidate_from h =
-      let k = kept_has (in_range os) (named_prices os) p (rising_has (named_in_range os) p h) in
+      let k = Contains-from_filter (in_range os) (named_prices os) p (rising_has (named_in_range os) p h) in
       (range_spans os p k.1, named_names os p k.0)
 
-  pub candidate_to : Spans os p → Names os p → Has (candidates os) p
+  pub candidate_to : Spans os p → Names os p → Contains (candidates os) p
   candidate_to s n =
-      let m : Has (named_prices os) p = elim n [ inl b ↦ rests_named os Buy p b | inr c ↦ rests_named os Sell p c ] in
-      has_rising (named_in_range os) p (has_kept (in_range os) (named_prices os) p m (spans_range os p s))
+      let m : Contains (named_prices os) p = elim n [ inl b ↦ rests_named os Buy p b | inr c ↦ rests_named os Sell p c ] in
+      has_rising (named_in_range os) p (Contains-filter (in_range os) (named_prices os) p m (spans_range os p s))

@@ -1,3 +1,5 @@
 pub mod Amounts
 pub mod Rows
 pub mod Reach
+pub mod Taken
+pub mod ErrorText

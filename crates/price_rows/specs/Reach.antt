@@ -1,6 +1,6 @@
 -- What a price matches and leaves, and where it lies among the limit orders. Assumes nothing.
 use Rattle.std.specs.Prelude.{◌≡◌, ℕ, ◌≤◌, ◌⊎◌, List}
-use Rattle.std.specs.List.{ContainsAt as Has}
+use Rattle.std.specs.List.{Contains}
 use Rattle.order.specs.declared.Side.{Side}
 use Rattle.order.specs.declared.Side.TheVariants.{Buy, Sell}
 use Rattle.order.specs.declared.Kind.TheVariants.{Limit}
@@ -15,7 +15,7 @@ surplus orders price = surplus_in (row_at orders price)
 
 -- a limit order of this side at this price is among the orders
 abbrev pub Rests : List Order → Side → ℕ → Type 0
-Rests orders side price = (o : Order) × Has orders o × (o.side ≡ side) × (o.kind ≡ Limit price)
+Rests orders side price = (o : Order) × Contains orders o × (o.side ≡ side) × (o.kind ≡ Limit price)
 
 -- a limit order names the price
 abbrev pub Names : List Order → ℕ → Type 0

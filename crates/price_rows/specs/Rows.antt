@@ -1,6 +1,7 @@
 -- The rows of the candidates. Assumes nothing.
-use Rattle.std.specs.Prelude.{◌≡◌, ℕ, ◌<◌, ◌≤◌, List, map, length, take, drop, Ok, Err, vec_items, Result, Vec}
+use Rattle.std.specs.Prelude.{◌≡◌, ◌<◌, ◌≤◌, List, map, length, Ok, Err, vec_items, Result, Vec}
 use Rattle.std.specs.declared.alloc.Global.{Global}
+use Rattle.arrayvec.specs.ArrayVec.{ArrayVec}
 use Rattle.order.specs.declared.Order.{Order}
 use Rattle.price_rows.specs.declared.PriceRow.{PriceRow}
 use Rattle.price_rows.specs.declared.AuctionError.{AuctionError}
@@ -21,10 +22,8 @@ RowsAnswered orders (Ok rows) = (length orders ≤ 512) × (vec_items rows ≡ r
 RowsAnswered orders (Err TooManyOrders) = 512 < length orders
 RowsAnswered orders (Err NoMemory) = length orders ≤ 512
 
--- the rows in entry order go to the front of the table, and the answer is how many they are; what stands beyond them stays.
--- A refusal, exactly where there are over 512 orders, changes nothing
-abbrev pub RowsEntered : List Order → List PriceRow → List PriceRow → Result ℕ AuctionError → Type 0
-RowsEntered orders before after (Ok n) =
-    (length orders ≤ 512) × (n ≤ 512) × (take n after ≡ entry_rows orders) × (drop n after ≡ drop n before)
-RowsEntered orders before after (Err TooManyOrders) = (512 < length orders) × (after ≡ before)
-RowsEntered orders before after (Err NoMemory) = ⊥
+-- the rows in entry order; a refusal exactly where there are over 512 orders
+abbrev pub RowsEntered : List Order → Result (ArrayVec PriceRow) AuctionError → Type 0
+RowsEntered orders (Ok rows) = (length orders ≤ 512) × (rows.items ≡ entry_rows orders)
+RowsEntered orders (Err TooManyOrders) = 512 < length orders
+RowsEntered orders (Err NoMemory) = ⊥

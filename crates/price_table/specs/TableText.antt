@@ -2,10 +2,9 @@
 use Rattle.std.specs.Prelude.{ℕ, ◌-◌, List, [], ◌∷◌, ◌++◌, length, replicate, codes, decimal}
 use Rattle.std.specs.List.{flat_map}
 use Rattle.reasons.specs.declared.Candidate.{Candidate}
-use Rattle.auction.specs.declared.ThirdRule.{ThirdRule}
-use Rattle.auction.specs.declared.ThirdRule.TheVariants.{DemandExceeds, SupplyExceeds, ClosestTo, NoClosingPrice}
 use Rattle.reasons.specs.declared.Verdict.{Verdict}
 use Rattle.reasons.specs.declared.Verdict.TheVariants.{Struck, MatchesLess, LeavesMore, LostByThird}
+use Rattle.reasons.specs.VerdictText.{verdict_text}
 
 -- so many blanks
 abbrev pub blanks_text : ℕ → List ℕ
@@ -14,20 +13,6 @@ blanks_text n = replicate n 32
 -- a number at the right of a column of twelve, with one blank before it at least
 abbrev pub column_text : ℕ → List ℕ
 column_text n = codes " " ++ (blanks_text (11 - length (decimal n)) ++ decimal n)
-
--- the last reason by which a price loses
-abbrev pub third_text : ThirdRule → List ℕ
-third_text DemandExceeds = codes "demand exceeds supply at each, so the highest wins"
-third_text SupplyExceeds = codes "supply exceeds demand at each, so the lowest wins"
-third_text (ClosestTo price) = codes "the closest to the closing price " ++ (decimal price ++ codes " wins, the higher of two as close")
-third_text NoClosingPrice = codes "without a closing price the highest wins"
-
--- whether a price won, and if not why
-abbrev pub verdict_text : Verdict → List ℕ
-verdict_text Struck = codes "struck"
-verdict_text (MatchesLess n) = codes "lost: matches " ++ (decimal n ++ codes " less")
-verdict_text (LeavesMore n) = codes "lost: matches as many and leaves " ++ (decimal n ++ codes " more")
-verdict_text (LostByThird rule) = codes "lost: equal on both, and " ++ third_text rule
 
 -- the line of one candidate price
 abbrev pub row_text : Candidate → List ℕ

@@ -1,6 +1,6 @@
 -- The first of a list leads it. Assumes nothing.
 use Rattle.std.proofs.Common.{◌≡◌, ℕ, Bool, true, false, cond, List, [], ◌∷◌, ◌++◌, Some, None, fold, Option, sym, refl, ap, ◌∙◌, subst, inl, inr, arith}
-use Rattle.std.proofs.ByRecursion.{has_push, has_push_cases, has_append_left}
+use Rattle.std.proofs.lemmas.List.Elements.{Contains-push, Contains-push_cases, Contains-append_left}
 use Rattle.std.proofs.lemmas.List.{append-nil, append_assoc}
 use Rattle.std.proofs.lemmas.Bool.{cases_Bool, both_ways}
 use Rattle.rank.specs.Ranked.{Lawful, better, first_of, NoneCounts, Leads, IsFirst}
@@ -8,7 +8,7 @@ use Rattle.rank.specs.Ranked.{Lawful, better, first_of, NoneCounts, Leads, IsFir
 module _ {X : Type 0} (counts : X → Bool) where
   -- one thing more that does not count
   none_more : (xs : List X) (x : X) → counts x ≡ false → NoneCounts counts xs → NoneCounts counts (xs ++ x ∷ [])
-  none_more xs x out none y h = elim (has_push_cases xs x y h) [ inl old ↦ none y old | inr e ↦ ap counts (sym e) ∙ out ]
+  none_more xs x out none y h = elim (Contains-push_cases xs x y h) [ inl old ↦ none y old | inr e ↦ ap counts (sym e) ∙ out ]
 
 module _ {X : Type 0} (counts : X → Bool) (ahead : X → X → Bool) (key : X → List ℕ) (laws : Lawful ahead key) where
   -- nothing is ahead of itself
@@ -19,18 +19,18 @@ module _ {X : Type 0} (counts : X → Bool) (ahead : X → X → Bool) (key : X 
   stays : (xs : List X) (b x : X) → (counts x ≡ true → ahead x b ≡ false) → Leads counts ahead xs b → Leads counts ahead (xs ++ x ∷ []) b
   stays xs b x behind leads =
       record {
-        listed = has_append_left xs (x ∷ []) b leads.listed;
+        listed = Contains-append_left xs (x ∷ []) b leads.listed;
         counted = leads.counted;
-        unbeaten = λ y h c. elim (has_push_cases xs x y h) [ inl old ↦ leads.unbeaten y old c | inr e ↦ ap (λ z. ahead z b) (sym e) ∙ behind (ap counts e ∙ c) ];
+        unbeaten = λ y h c. elim (Contains-push_cases xs x y h) [ inl old ↦ leads.unbeaten y old c | inr e ↦ ap (λ z. ahead z b) (sym e) ∙ behind (ap counts e ∙ c) ];
       }
 
   -- who is ahead of the leader leads
   takes_over : (xs : List X) (b x : X) → counts x ≡ true → ahead x b ≡ true → Leads counts ahead xs b → Leads counts ahead (xs ++ x ∷ []) x
   takes_over xs b x cx wins leads =
       record {
-        listed = has_push xs x;
+        listed = Contains-push xs x;
         counted = cx;
-        unbeaten = λ y h c. elim (has_push_cases xs x y h) [ inl old ↦ beaten y (leads.unbeaten y old c) | inr e ↦ ap (λ z. ahead z x) (sym e) ∙ not_itself x ];
+        unbeaten = λ y h c. elim (Contains-push_cases xs x y h) [ inl old ↦ beaten y (leads.unbeaten y old c) | inr e ↦ ap (λ z. ahead z x) (sym e) ∙ not_itself x ];
       }
     where
       beaten : (y : X) → ahead y b ≡ false → ahead y x ≡ false
@@ -40,9 +40,9 @@ module _ {X : Type 0} (counts : X → Bool) (ahead : X → X → Bool) (key : X 
   begins : (xs : List X) (x : X) → counts x ≡ true → NoneCounts counts xs → Leads counts ahead (xs ++ x ∷ []) x
   begins xs x cx none =
       record {
-        listed = has_push xs x;
+        listed = Contains-push xs x;
         counted = cx;
-        unbeaten = λ y h c. elim (has_push_cases xs x y h) [ inl old ↦ absurd (both_ways (counts y) (none y old) c) | inr e ↦ ap (λ z. ahead z x) (sym e) ∙ not_itself x ];
+        unbeaten = λ y h c. elim (Contains-push_cases xs x y h) [ inl old ↦ absurd (both_ways (counts y) (none y old) c) | inr e ↦ ap (λ z. ahead z x) (sym e) ∙ not_itself x ];
       }
 
   leads_more : (xs : List X) (best : Option X) (x : X) → IsFirst counts ahead xs best → IsFirst counts ahead (xs ++ x ∷ []) (better counts ahead best x)
@@ -65,5 +65,5 @@ module _ {X : Type 0} (counts : X → Bool) (ahead : X → X → Bool) (key : X 
       (leads_on (seen ++ x ∷ []) xs (better counts ahead best x) (leads_more seen best x is))
 
   -- the first of a list is what its name says
-  pub first_leads : (xs : List X) → IsFirst counts ahead xs (first_of counts ahead xs)
-  first_leads xs = leads_on [] xs None (λ x h. absurd (omega (arith, h.1)))
+  pub first_leads : (xs : List X) (r : Option X) → r ≡ first_of counts ahead xs → IsFirst counts ahead xs r
+  first_leads xs r is = subst (IsFirst counts ahead xs) (sym is) (leads_on [] xs None (λ x h. absurd (omega (arith, h.1))))

@@ -1,6 +1,5 @@
 -- What a rank is, and the first of a list by rank. Assumes nothing.
-use Rattle.std.specs.Prelude.{◌≡◌, ℕ, Bool, true, false, cond, List, Some, None, fold, Option, MatchOption}
-use Rattle.std.specs.List.{ContainsAt as Has}
+use Rattle.std.specs.Prelude.{◌≡◌, ℕ, Bool, true, false, cond, List, Some, None, fold, Option, Contains, MatchOption}
 
 -- The laws of a rank. `key` lists all that the rank compares.
 pub record Lawful {X : Type 0} (ahead : X → X → Bool) (key : X → List ℕ) : Type 0 where
@@ -15,7 +14,7 @@ pub record Lawful {X : Type 0} (ahead : X → X → Bool) (key : X → List ℕ)
 
 -- none in the list counts
 abbrev pub NoneCounts : {X : Type 0} → (X → Bool) → List X → Type 0
-NoneCounts {X} counts xs = (x : X) → Has xs x → counts x ≡ false
+NoneCounts {X} counts xs = (x : X) → Contains xs x → counts x ≡ false
 
 module _ {X : Type 0} (counts : X → Bool) (ahead : X → X → Bool) where
   -- the better of the best so far and one thing more
@@ -29,9 +28,9 @@ module _ {X : Type 0} (counts : X → Bool) (ahead : X → X → Bool) where
 
   -- `b` is of the list and counts, and nothing in the list that counts is ahead of it
   pub record Leads (xs : List X) (b : X) : Type 0 where
-    pub listed : Has xs b
+    pub listed : Contains xs b
     pub counted : counts b ≡ true
-    pub unbeaten : (x : X) → Has xs x → counts x ≡ true → ahead x b ≡ false
+    pub unbeaten : (x : X) → Contains xs x → counts x ≡ true → ahead x b ≡ false
 
   -- what the first of a list is: nobody where none counts, else one that leads
   abbrev pub IsFirst : List X → Option X → Type 0

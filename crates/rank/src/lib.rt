@@ -18,6 +18,7 @@ pub trait Rank<X> {
     fn counted(&self, x: &X) -> bool
         ensures { result ≡ counts self.now x.now };
 
+    // not `Ord` of the things: which goes ahead depends on the rank, as on a side or on a closing price
     fn is_ahead(&self, a: &X, b: &X) -> bool
         ensures { result ≡ ahead self.now a.now b.now };
 
@@ -32,16 +33,16 @@ fn improve<X: Copy, R: Rank<X>>(rank: &R, best: Option<X>, x: &X) -> Option<X>
     if !rank.counted(x) {
         return best;
     }
-    match best {
-        None => Some(*x),
-        Some(b) => {
-            if rank.is_ahead(x, &b) {
-                Some(*x)
-            } else {
-                Some(b)
-            }
-        }
-    }
+    // the best so far stays, unless x is ahead of it
+    best.filter(|b| !rank.is_ahead(x, b)).or(Some(*x))
+}
+
+// The best of the slice, each thing measured against the best before it. Apart from `first`, for the proof: beside a second
+// clause the check did not find what a chain gives.
+fn best_of<X: Copy, R: Rank<X>>(rank: &R, items: &[X]) -> Option<X>
+    ensures { result ≡ first_of (R.Rank.counts rank.now) (R.Rank.ahead rank.now) items.now }
+{
+    items.iter().fold(None, |best, x| improve(rank, best, x))
 }
 
 // The first by rank of those in the slice that count.
@@ -49,9 +50,5 @@ pub fn first<X: Copy, R: Rank<X>>(rank: &R, items: &[X]) -> Option<X>
     ensures value { result ≡ first_of (R.Rank.counts rank.now) (R.Rank.ahead rank.now) items.now }
     ensures leads { IsFirst (R.Rank.counts rank.now) (R.Rank.ahead rank.now) items.now result }
 {
-    let mut best = None;
-    for x in items {
-        best = improve(rank, best, x);
-    }
-    best
+    best_of(rank, items)
 }

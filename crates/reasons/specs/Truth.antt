@@ -1,6 +1,6 @@
 -- What an explanation promises: one candidate is struck, and each verdict is true. Assumes nothing.
 use Rattle.std.specs.Prelude.{◌≡◌, ℕ, ◌+◌, ◌<◌, Bool, true, false, ◌⊎◌, List, [], Some, None, count_by, Option, MatchOption}
-use Rattle.std.specs.List.{ContainsAt as Has}
+use Rattle.std.specs.List.{Contains}
 use Rattle.order.specs.declared.Order.{Order}
 use Rattle.auction.specs.declared.AuctionPrice.{AuctionPrice}
 use Rattle.auction.specs.declared.ThirdRule.{ThirdRule}
@@ -70,9 +70,9 @@ module _ (close : Option ℕ) (orders : List Order) (struck : AuctionPrice) wher
     -- exactly one candidate is struck
     pub one_struck : count_by (λ c. is_struck c.verdict) told ≡ 1
     -- each is told truly
-    pub each : (c : Candidate) → Has told c → TrueOf c
+    pub each : (c : Candidate) → Contains told c → TrueOf c
     -- and none is left out
-    pub all : (price : ℕ) → Spans orders price → Names orders price → (c : Candidate) × Has told c × (c.row.price ≡ price)
+    pub all : (price : ℕ) → Spans orders price → Names orders price → (c : Candidate) × Contains told c × (c.row.price ≡ price)
 
 -- the explanation of an auction price: nothing where there is none
 abbrev pub ExplainsPrice : Option ℕ → List Order → Option AuctionPrice → List Candidate → Type 0

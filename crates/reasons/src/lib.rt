@@ -1,7 +1,8 @@
 // Why each candidate price won or lost.
 #![tactic(auto)]
 
-ghost use Rattle.std.specs.Prelude.{◌≡◌, map, IfOk};
+ghost use Rattle.std.specs.Prelude.{◌≡◌, map, Some, IfOk};
+ghost use Rattle.reasons.specs.VerdictText.{verdict_text};
 ghost use Rattle.auction.specs.Rules.{thousandths, auction_price};
 ghost use Rattle.reasons.specs.Verdicts.{verdict_of, candidate_of, Explained};
 ghost use Rattle.reasons.specs.Truth.{ExplainsPrice};
@@ -10,9 +11,10 @@ use auction::{Decision, ThirdRule, decide};
 use order::Order;
 use price_rows::{AuctionError, PriceRow, candidate_rows};
 use std::alloc::{AllocError, Global};
+use std::fmt;
 
 // Why a candidate price won or lost, beside the struck price.
-#[derive(Clone, Copy)]
+#[derive(Clone, Copy, PartialEq, Eq, Debug)]
 pub enum Verdict {
     Struck,
     // matches this many shares less
@@ -21,6 +23,19 @@ pub enum Verdict {
     LeavesMore(u64),
     // equal on both, and lost by the third rule, in this case of it
     LostByThird(ThirdRule),
+}
+
+impl fmt::Display for Verdict {
+    ghost output = { λ verdict. Some (verdict_text verdict) };
+
+    fn fmt<W: fmt::Write>(&self, f: &mut fmt::Formatter<W>) -> fmt::Result {
+        match self {
+            Verdict::Struck => f.write_str("struck"),
+            Verdict::MatchesLess(n) => write!(f, "lost: matches {n} less"),
+            Verdict::LeavesMore(n) => write!(f, "lost: matches as many and leaves {n} more"),
+            Verdict::LostByThird(rule) => write!(f, "lost: equal on both, and {rule}"),
+        }
+    }
 }
 
 // A candidate price with its demand and supply, what it matches and leaves, and why it won or lost.
@@ -69,11 +84,7 @@ fn judge_all(
 ) -> Result<Vec<Candidate>, AllocError>
     ensures { IfOk result (λ v. v.items ≡ map (candidate_of struck.now) rows.now) }
 {
-    let mut told = Vec::new(heap);
-    for row in rows {
-        told.push(judge(struck, row))?;
-    }
-    Ok(told)
+    rows.iter().map(|row| judge(struck, row)).collect(heap)
 }
 
 // Every candidate in rising price, with why it won or lost; none where there is no price.
@@ -89,8 +100,5 @@ pub fn explain(
         return Ok(Vec::new(heap));
     };
     let rows = candidate_rows(heap, orders)?;
-    match judge_all(heap, &struck, rows.as_slice()) {
-        Ok(told) => Ok(told),
-        Err(_) => Err(AuctionError::NoMemory),
-    }
+    Ok(judge_all(heap, &struck, rows.as_slice())?)
 }

@@ -1,75 +1,86 @@
--- Fronts, lines and words. Assumes nothing.
-use Rattle.std.proofs.Common.{◌≡◌, ℕ, ◌+◌, ◌≤◌, Bool, true, false, cond, not, ◌⊎◌, List, [], ◌∷◌, length, take, drop, sym, refl, ap, ◌∙◌, inl, inr, one-add, arith}
-use Rattle.std.specs.List.{prefix_len}
-use Rattle.std.proofs.lemmas.Bool.{cases_Bool}
-use Rattle.words.specs.Cutting.{blank, front, past, onto, pieces, without_empty, words}
-
-module _ (p : ℕ → Bool) where
-  pub front_take : (bs : List ℕ) → take (prefix_len p bs) bs ≡ front p bs
-  front_take [] = refl
-  front_take (b ∷ bs) =
-      elim (p b) as (λ t. take (cond t (1 + prefix_len p bs) 0) (b ∷ bs) ≡ cond t (b ∷ front p bs) [])
-      [ true ↦ rw one-add (ap (λ l. b ∷ l) (front_take bs)) | false ↦ refl ]
-
-  pub past_drop : (bs : List ℕ) → drop (prefix_len p bs) bs ≡ past p bs
-  past_drop [] = refl
-  past_drop (b ∷ bs) =
-      elim (p b) as (λ t. drop (cond t (1 + prefix_len p bs) 0) (b ∷ bs) ≡ cond t (past p bs) (b ∷ bs))
-      [ true ↦ rw one-add (past_drop bs) | false ↦ refl ]
-
-pub past_le : (p : ℕ → Bool) (bs : List ℕ) → length (past p bs) ≤ length bs
-past_le p [] = omega arith
-past_le p (b ∷ bs) =
-    elim (p b) as (λ t. length (cond t (past p bs) (b ∷ bs)) ≤ length (b ∷ bs)) [ true ↦ omega (arith, past_le p bs) | false ↦ omega arith ]
+-- The first line of a text, and the first word of a line. Assumes nothing.
+use Rattle.std.proofs.Common.{◌≡◌, ℕ, ◌+◌, ◌≤◌, Bool, true, false, cond, not, ltb, List, [], ◌∷◌, length, get_or, take, drop, Some, None, Option, unwrap_or, sym, refl, ap, ◌∙◌, inl, inr, one-add, add-one, arith, drop-cons}
+use Rattle.std.proofs.Math.Seq.{take-length, drop-length}
+use Rattle.std.specs.List.{slice_split, onto_first, position, position_or_len, before_first, after_first}
+use Rattle.std.proofs.lemmas.Bool.{cases_Bool, cases_lt, cond-true, cond-false, le-ltb, lt-ltb, not-true}
+use Rattle.std.proofs.lemmas.Option.{cond_some, none-some}
+use Rattle.std.specs.Bool.{then_some}
+use Rattle.std.proofs.lemmas.List.{length-take-le}
+use Rattle.std.proofs.lemmas.List.Sums.{prefix_len-le-length}
+use Rattle.std.proofs.lemmas.List.Splits.{slice_split_first}
+use Rattle.std.proofs.lemmas.List.Quantifiers.{position-Some}
+use denote.Ref.{Bor}
+use Rattle.words.specs.Cutting.{newline, blank, without_empty, lines, lines_left, words}
 
 -- the pieces after the first, where `bs` begins with the byte that ends the first
 abbrev pub after : (ℕ → Bool) → List ℕ → List (List ℕ)
 after p [] = []
-after p (b ∷ bs) = pieces p bs
+after p (b ∷ bs) = slice_split p bs
 
-pub pieces_front : (p : ℕ → Bool) (bs : List ℕ) → pieces p bs ≡ front (λ b. not (p b)) bs ∷ after p (past (λ b. not (p b)) bs)
-pieces_front p [] = refl
-pieces_front p (b ∷ bs) =
-    elim (p b) as (λ t. cond t ([] ∷ pieces p bs) (onto b (pieces p bs)) ≡ cond (not t) (b ∷ front (λ c. not (p c)) bs) [] ∷ after p (cond (not t) (past (λ c. not (p c)) bs) (b ∷ bs)))
-    [ true ↦ refl | false ↦ ap (onto b) (pieces_front p bs) ]
+module _ (p : ℕ → Bool) where
+  pub split_front : (bs : List ℕ) → slice_split p bs ≡ before_first p bs ∷ after p (drop (position_or_len p bs) bs)
+  split_front [] = refl
+  split_front (b ∷ bs) =
+      elim (p b) as (λ t. cond t ([] ∷ slice_split p bs) (onto_first b (slice_split p bs)) ≡ take (cond (not t) (1 + position_or_len p bs) 0) (b ∷ bs) ∷ after p (drop (cond (not t) (1 + position_or_len p bs) 0) (b ∷ bs)))
+      [ true ↦ refl | false ↦ rw one-add (ap (onto_first b) (split_front bs)) ]
 
-abbrev in_word : ℕ → Bool
-in_word b = not (blank b)
+  stops_at_end : (bs : List ℕ) → position p bs ≡ None → position_or_len p bs ≡ length bs
+  stops_at_end bs e =
+      elim (cases_lt (position_or_len p bs) (length bs)) [
+        | inl lt ↦ absurd (none-some _ (sym e ∙ cond-true _ _ _ (lt-ltb _ _ lt)))
+        | inr ge ↦ omega (arith, prefix_len-le-length (λ b. not (p b)) bs)
+      ]
 
--- blanks in front make no word
-skip : (bs : List ℕ) → words bs ≡ words (past blank bs)
+  pub position-unwrap_or : (bs : List ℕ) → unwrap_or (position p bs) (length bs) ≡ position_or_len p bs
+  position-unwrap_or bs =
+      elim (cases_lt (position_or_len p bs) (length bs)) [
+        | inl lt ↦ ap (λ r. unwrap_or r (length bs)) (cond-true _ _ _ (lt-ltb _ _ lt))
+        | inr ge ↦ ap (λ r. unwrap_or r (length bs)) (cond-false _ _ _ (le-ltb _ _ ge)) ∙ omega (arith, prefix_len-le-length (λ b. not (p b)) bs)
+      ]
+
+  -- no byte passes
+  pub split_none : (bs : List ℕ) → position p bs ≡ None → slice_split p bs ≡ bs ∷ []
+  split_none bs e = split_front bs ∙ rw (stops_at_end bs e) (rw (take-length, drop-length) refl)
+
+-- the lines are the first and those of what follows it, if a newline ends it
+pub lines_cut : (text line : List ℕ) (rest : Bor (List ℕ)) (r : Option (Bor (List ℕ))) → line ≡ before_first newline text → rest.now ≡ after_first newline text → r ≡ then_some (ltb (length line) (length text)) rest → lines text ≡ line ∷ lines_left r
+lines_cut text line rest r is follows left =
+    let n = position_or_len newline text in
+    let least : n ≤ length text = prefix_len-le-length (λ b. not (newline b)) text in
+    let long : length line ≡ n = ap length is ∙ length-take-le n text least in
+    elim (cases_lt n (length text)) [
+      | inl lt ↦
+          slice_split_first newline text 0 lt
+          ∙ sym (ap (λ o. line ∷ lines_left o) (left ∙ ap (λ t. then_some t rest) (lt-ltb (length line) (length text) (omega arith))) ∙ (λ i. is i ∷ lines (follows i)))
+      | inr ge ↦
+          let whole : line ≡ text = is ∙ rw (let z : n ≡ length text = omega arith in z) (take-length text) in
+          split_none newline text (cond-false _ _ _ (le-ltb n (length text) ge))
+          ∙ sym (ap (λ o. line ∷ lines_left o) (left ∙ ap (λ t. then_some t rest) (le-ltb (length line) (length text) (omega arith))) ∙ ap (λ l. l ∷ []) whole)
+    ]
+
+-- ---- words, where blanks are passed over
+
+abbrev pub nonblank : ℕ → Bool
+nonblank b = not (blank b)
+
+skip : (bs : List ℕ) → words bs ≡ words (drop (position_or_len nonblank bs) bs)
 skip [] = refl
-skip (b ∷ bs) = elim (cases_Bool (blank b)) [ inl e ↦ rw e (skip bs) | inr e ↦ rw e (rw e refl) ]
+skip (b ∷ bs) = elim (cases_Bool (blank b)) [ inl e ↦ rw e (rw one-add (skip bs)) | inr e ↦ rw e (rw e refl) ]
 
-words_after : (bs : List ℕ) → without_empty (after blank (past in_word bs)) ≡ words (past in_word bs)
-words_after [] = refl
-words_after (b ∷ bs) = elim (cases_Bool (blank b)) [ inl e ↦ rw e (rw e refl) | inr e ↦ rw e (words_after bs) ]
+-- what follows a word
+after_word : (bs : List ℕ) → without_empty (after blank (drop (position_or_len blank bs) bs)) ≡ words (drop (position_or_len blank bs) bs)
+after_word [] = refl
+after_word (b ∷ bs) = elim (cases_Bool (blank b)) [ inl e ↦ rw e (rw e refl) | inr e ↦ rw e (rw one-add (after_word bs)) ]
 
-word_first : (b : ℕ) (bs : List ℕ) → blank b ≡ false → words (b ∷ bs) ≡ front in_word (b ∷ bs) ∷ words (past in_word (b ∷ bs))
-word_first b bs e = rw e (ap (λ ts. without_empty (onto b ts)) (pieces_front blank bs) ∙ ap (λ ts. (b ∷ front in_word bs) ∷ ts) (words_after bs))
+word_first : (b : ℕ) (bs : List ℕ) → blank b ≡ false → words (b ∷ bs) ≡ before_first blank (b ∷ bs) ∷ words (drop (position_or_len blank (b ∷ bs)) (b ∷ bs))
+word_first b bs e = rw e (rw one-add (ap (λ ts. without_empty (onto_first b ts)) (split_front blank bs) ∙ ap (λ ts. (b ∷ before_first blank bs) ∷ ts) (after_word bs)))
 
--- past the blanks is nothing, or a byte of a word
-past_blank : (bs : List ℕ) → (past blank bs ≡ []) ⊎ ((b : ℕ) × (more : List ℕ) × (past blank bs ≡ b ∷ more) × (blank b ≡ false))
-past_blank [] = inl refl
-past_blank (b ∷ bs) = elim (cases_Bool (blank b)) [ inl e ↦ rw e (past_blank bs) | inr e ↦ rw e (inr (b, bs, refl, e)) ]
+pub word_none : (bs : List ℕ) → position nonblank bs ≡ None → words bs ≡ []
+word_none bs e = skip bs ∙ rw (stops_at_end nonblank bs e) (rw drop-length refl)
 
--- `t` is past the blanks of `bs`, and `w` the front of it that is in-word: the first word, unless it is empty
-module _ (bs t w : List ℕ) (from : t ≡ past blank bs) (word : w ≡ front in_word t) where
-  pub word_none : length w ≡ 0 → words bs ≡ []
-  word_none none =
-      skip bs ∙ elim (past_blank bs) [
-        | inl e ↦ ap words e
-        | inr more ↦
-            let some : w ≡ front in_word (more.0 ∷ more.1) = word ∙ ap (front in_word) (from ∙ more.2) in
-            let long : w ≡ more.0 ∷ front in_word more.1 = rw more.3 at some in
-            absurd (omega (arith, ap length long))
-      ]
-
-  pub word_some : (u : List ℕ) → u ≡ past in_word t → (length w ≡ 0 → ⊥) → words bs ≡ w ∷ words u
-  word_some u rest some =
-      skip bs ∙ elim (past_blank bs) [
-        | inl e ↦ absurd (some (ap length (word ∙ ap (front in_word) (from ∙ e))))
-        | inr more ↦
-            let is = from ∙ more.2 in
-            ap words more.2 ∙ word_first more.0 more.1 more.3 ∙ sym (ap (λ l. front in_word l ∷ words (past in_word l)) is) ∙ sym (λ i. word i ∷ words (rest i))
-      ]
+pub word_some : (bs : List ℕ) (n : ℕ) → position nonblank bs ≡ Some n → words bs ≡ before_first blank (drop n bs) ∷ words (drop (position_or_len blank (drop n bs)) (drop n bs))
+word_some bs n e =
+    let at = cond_some _ _ _ e in
+    let yes = position-Some nonblank bs n 0 e in
+    let first : drop n bs ≡ get_or bs n 0 ∷ drop (n + 1) bs = rw add-one (drop-cons bs n 0 yes.0) in
+    skip bs ∙ rw at.1 (rw first (word_first (get_or bs n 0) (drop (n + 1) bs) (not-true _ yes.1)))

@@ -1,7 +1,7 @@
 -- Lines, words and numbers in a list of bytes. Assumes nothing.
-use Rattle.std.specs.Prelude.{ℕ, ◌+◌, ◌-◌, ◌*◌, Bool, cond, not, ◌&&◌, ◌||◌, List, [], ◌∷◌, length, Some, None, Option, ◌==◌, nat_le}
-use Rattle.words.specs.declared.Class.{Class}
-use Rattle.words.specs.declared.Class.TheVariants.{InLine, BeforeHash, Blank, InWord}
+use Rattle.std.specs.Prelude.{ℕ, ◌+◌, ◌-◌, ◌*◌, Bool, cond, ◌&&◌, ◌||◌, List, [], ◌∷◌, length, Some, None, Ok, Err, Option, Result, ◌==◌, nat_le}
+use Rattle.std.specs.List.{slice_split, before_first}
+use denote.Ref.{Bor}
 
 -- the byte that ends a line
 abbrev pub newline : ℕ → Bool
@@ -15,25 +15,14 @@ hash b = b == 35
 abbrev pub blank : ℕ → Bool
 blank b = b == 32 || (b == 9 || b == 13)
 
--- the longest front whose bytes all pass a test
-abbrev pub front : (ℕ → Bool) → List ℕ → List ℕ
-front p [] = []
-front p (b ∷ bs) = cond (p b) (b ∷ front p bs) []
+-- the lines of a text; where it ends with a newline, an empty line follows, which says nothing
+abbrev pub lines : List ℕ → List (List ℕ)
+lines text = slice_split newline text
 
--- what follows that front
-abbrev pub past : (ℕ → Bool) → List ℕ → List ℕ
-past p [] = []
-past p (b ∷ bs) = cond (p b) (past p bs) (b ∷ bs)
-
--- a byte more at the front of the first of some pieces
-abbrev pub onto : ℕ → List (List ℕ) → List (List ℕ)
-onto b [] = (b ∷ []) ∷ []
-onto b (t ∷ ts) = (b ∷ t) ∷ ts
-
--- the pieces between the bytes that pass a test
-abbrev pub pieces : (ℕ → Bool) → List ℕ → List (List ℕ)
-pieces p [] = [] ∷ []
-pieces p (b ∷ bs) = cond (p b) ([] ∷ pieces p bs) (onto b (pieces p bs))
+-- the lines of the text that is left, if any is
+abbrev pub lines_left : Option (Bor (List ℕ)) → List (List ℕ)
+lines_left None = []
+lines_left (Some text) = lines text.now
 
 -- the pieces that have a byte at least
 abbrev pub without_empty : List (List ℕ) → List (List ℕ)
@@ -41,24 +30,23 @@ without_empty [] = []
 without_empty ([] ∷ ts) = without_empty ts
 without_empty ((b ∷ t) ∷ ts) = (b ∷ t) ∷ without_empty ts
 
--- the lines of a text; where it ends with a newline, an empty line follows, which says nothing
-abbrev pub lines : List ℕ → List (List ℕ)
-lines text = pieces newline text
-
 -- the words of a line
 abbrev pub words : List ℕ → List (List ℕ)
-words line = without_empty (pieces blank line)
-
--- the bytes of each class: of a line, before a comment, between words, of a word
-abbrev pub in_class : Class → ℕ → Bool
-in_class InLine b = not (newline b)
-in_class BeforeHash b = not (hash b)
-in_class Blank b = blank b
-in_class InWord b = not (blank b)
+words line = without_empty (slice_split blank line)
 
 -- a line without its comment
 abbrev pub said : List ℕ → List ℕ
-said line = front (λ b. not (hash b)) line
+said line = before_first hash line
+
+-- goes on where there is no fault
+abbrev pub and_then : {A B E : Type 0} → Result A E → (A → Result B E) → Result B E
+and_then (Ok x) next = next x
+and_then (Err e) next = Err e
+
+-- a value, where no word follows, or else this error
+abbrev pub nothing_after : {A E : Type 0} → E → A → List (List ℕ) → Result A E
+nothing_after extra x [] = Ok x
+nothing_after extra x (w ∷ ws) = Err extra
 
 -- '0' to '9'
 abbrev pub digit : ℕ → Bool

@@ -1,6 +1,5 @@
 -- Eight small books with the price that each must open at. Assumes nothing.
-use Rattle.std.specs.Prelude.{◌≡◌, ℕ, List, [], ◌∷◌, Some, None, Option}
-use Rattle.std.specs.List.{AllByRecursion}
+use Rattle.std.specs.Prelude.{◌≡◌, ℕ, List, [], ◌∷◌, Some, None, Option, All}
 use Rattle.order.specs.declared.Side.{Side}
 use Rattle.order.specs.declared.Side.TheVariants.{Buy, Sell}
 use Rattle.order.specs.declared.Kind.{Kind}
@@ -77,4 +76,4 @@ abbrev pub Opens : Worked → Type 0
 Opens w = auction_price thousandths w.close w.orders ≡ w.answer
 
 abbrev pub AllOpen : Type 0
-AllOpen = AllByRecursion Opens worked_books
+AllOpen = All Opens worked_books

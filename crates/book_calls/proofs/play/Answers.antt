@@ -1,15 +1,12 @@
-use Rattle.std.proofs.Common.{ap, ◌∙◌}
-use Rattle.book.specs.Books.{order_of}
-use Rattle.book_calls.proofs.Others.{call_others}
+use Rattle.std.proofs.Common.{rules}
+use Rattle.book_calls.proofs.Others.{touches_only_named}
 use Rattle.book_calls.proofs.play.Goals as goal
 
-pub returns : goal.returns
-returns g c =
-    let rule = g.B.Book.rule c.args.book.now in
-    let xs = g.B.Book.resting c.args.book.now in
-    record {
-      answer = c.hand_on.ensures.answer;
-      list = c.hand_on.ensures.list;
-      fixed = c.hand_on.ensures.fixed;
-      others = λ n other. ap (order_of n) c.hand_on.ensures.list ∙ call_others rule c.args.call xs n other;
-    }
+pub returns-in-Put-clause-others : goal.returns-in-Put-clause-others
+returns-in-Put-clause-others g c = touches_only_named (g.B.Book.rule c.args.book.now) c.args.call (g.B.Book.resting c.args.book.now) (g.B.Book.resting c.put.new.self) (search rules)
+
+pub returns-in-Replace-clause-others : goal.returns-in-Replace-clause-others
+returns-in-Replace-clause-others g c = touches_only_named (g.B.Book.rule c.args.book.now) c.args.call (g.B.Book.resting c.args.book.now) (g.B.Book.resting c.replace.new.self) (search rules)
+
+pub returns-in-Cut-clause-others : goal.returns-in-Cut-clause-others
+returns-in-Cut-clause-others g c = touches_only_named (g.B.Book.rule c.args.book.now) c.args.call (g.B.Book.resting c.args.book.now) (g.B.Book.resting c.cut.new.self) (search rules)

@@ -1,8 +1,9 @@
 // Caps over a flat book, and the price over any book.
-use super::{answers, buy, holds, places, refusal_of};
+use super::{answers, buy, holds, places};
 use auction::AuctionPrice;
 use book::Book;
-use book_calls::BookCall;
+use book::BookRefusal::{NoPlace, NoShares, NumberNotAbove};
+use book_calls::{BookCall, play};
 use book_price::{book_explain, book_price, open_alike};
 use capped_book::{CappedBook, pile};
 use flat_book::FlatBook;
@@ -16,9 +17,12 @@ fn fills_up<B: Book + Drop>(rt: &impl Abort, below: B, cap: u8) {
     let mut book = CappedBook::new(below, cap);
     let most = u32::from(cap);
     for number in 0..most {
-        assert_eq!(rt; refusal_of(&mut book, BookCall::Put(buy(number, 1, 1))), 0);
+        assert_eq!(rt; play(&mut book, BookCall::Put(buy(number, 1, 1))), Ok(()));
     }
-    assert_eq!(rt; refusal_of(&mut book, BookCall::Put(buy(most, 1, 1))), 3);
+    assert_eq!(rt;
+        play(&mut book, BookCall::Put(buy(most, 1, 1))),
+        Err(NoPlace)
+    );
     places(rt, &book, &[(1, 0), (2, usize::from(cap))]);
 }
 
@@ -38,10 +42,17 @@ fn lesser_cap<B: Book + Drop>(rt: &impl Abort, below: B, lower: u8, upper: u8) {
         rt,
         &mut book,
         b"put 1 1 buy 9 10\nput 2 1 buy 9 10\nput 2 1 buy 0 10\nput 3 1 buy 0 10\nput 3 1 buy 9 10\nput 3 2 buy 9 10\n",
-        &[0, 0, 1, 2, 3, 0],
+        &[
+            Ok(()),
+            Ok(()),
+            Err(NumberNotAbove),
+            Err(NoShares),
+            Err(NoPlace),
+            Ok(()),
+        ],
     );
     places(rt, &book, &[(1, 0), (2, 1), (3, 1)]);
-    answers(rt, &mut book, b"cut 1 9\n", &[0]);
+    answers(rt, &mut book, b"cut 1 9\n", &[Ok(())]);
     places(rt, &book, &[(1, 1), (2, 1), (3, 2)]);
     holds(rt, &book, b"put 2 1 buy 9 10\nput 3 2 buy 9 10\n");
 }
@@ -60,9 +71,9 @@ const PUTS: &[u8] = b"put 1 1 buy 300 10020\nput 2 1 buy 100 at-auction\nput 3 2
 fn alike<A: Book, B: Book + Drop>(rt: &impl Abort, plain: &mut A, below: B) {
     let mut capped = pile(below, 2, 2);
     assert!(rt; open_alike(plain, &capped, None));
-    answers(rt, plain, PUTS, &[0, 0, 0]);
+    answers(rt, plain, PUTS, &[Ok(()), Ok(()), Ok(())]);
     assert!(rt; !open_alike(plain, &capped, None));
-    answers(rt, &mut capped, PUTS, &[0, 0, 0]);
+    answers(rt, &mut capped, PUTS, &[Ok(()), Ok(()), Ok(())]);
     assert!(rt; open_alike(plain, &capped, None));
     let struck = AuctionPrice {
         price: 10_020,
@@ -84,7 +95,7 @@ fn one_price_for_one_list(rt: HostRuntime) {
 
 // At both candidates 200 shares match and 200 are left; demand exceeds supply at each, so the higher is struck.
 fn explained<B: Book>(rt: &impl Abort, heap: Global, book: &mut B) -> Result<(), Fail> {
-    answers(rt, book, PUTS, &[0, 0, 0]);
+    answers(rt, book, PUTS, &[Ok(()), Ok(()), Ok(())]);
     let told = book_explain(heap, book, None)?;
     assert_eq!(rt; told.len(), 2);
     for candidate in told.as_slice() {
