@@ -8,8 +8,9 @@ ghost use Rattle.auction.specs.Laws.{BestPrice};
 ghost use Rattle.auction.specs.PriceLaws.{price_lawful};
 
 use super::{AuctionPrice, Decision, ThirdRule};
+use arrayvec::ArrayVec;
 use order::{Order, Side};
-use price_rows::{AuctionError, PriceRow, entry_rows};
+use price_rows::{AuctionError, PriceRow, write_entry_rows};
 use rank::{Rank, first};
 
 impl ThirdRule {
@@ -130,7 +131,8 @@ fn decide_rows(rows: &[PriceRow], close: Option<u32>) -> Option<Decision>
 pub fn decide(orders: &[Order], close: Option<u32>) -> Result<Option<Decision>, AuctionError>
     ensures { result ≡ decision_answer close orders.now }
 {
-    let rows = entry_rows(orders)?;
+    let mut rows = ArrayVec::new();
+    write_entry_rows(orders, &mut rows)?;
     Ok(decide_rows(rows.as_slice(), close))
 }
 

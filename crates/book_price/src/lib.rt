@@ -15,15 +15,14 @@ use price_rows::AuctionError;
 use reasons::{Candidate, explain};
 use std::alloc::{AllocError, Global};
 
-// A book's orders, asked for one after the other.
-fn copied<B: Book>(book: &B) -> ArrayVec<Order, MOST_RESTING>
-    ensures { result.items ≡ B.Book.resting book.now }
+// Makes the lent rows a book's orders, asked for one after the other. Handed back, the rows would be copied whole.
+fn copy_orders<B: Book>(book: &B, rows: &mut ArrayVec<Order, MOST_RESTING>)
+    ensures { rows.new.items ≡ B.Book.resting book.now }
 {
-    let mut rows = ArrayVec::new();
+    rows.clear();
     for order in orders(book) {
         rows.push(order);
     }
-    rows
 }
 
 // The auction price of the resting orders, by the closing price of the day before.
@@ -31,8 +30,10 @@ pub fn book_price<B: Book>(book: &B, close: Option<u32>) -> Option<AuctionPrice>
     ensures value { result ≡ opening_price close (B.Book.resting book.now) }
     ensures best { BestPrice (B.Book.resting book.now) result }
 {
+    let mut rows = ArrayVec::new();
+    copy_orders(book, &mut rows);
     // no book holds more orders than an auction takes
-    auction_price(copied(book).as_slice(), close).unwrap()
+    auction_price(rows.as_slice(), close).unwrap()
 }
 
 // Every candidate of the resting orders in rising price, with why it won or lost.
@@ -44,8 +45,10 @@ pub fn book_explain<B: Book>(
     ensures value { IfOk result (λ told. told.items ≡ explained close (B.Book.resting book.now)) }
     ensures truth { IfOk result (λ told. ExplainsPrice close (B.Book.resting book.now) (opening_price close (B.Book.resting book.now)) told.items) }
 {
+    let mut rows = ArrayVec::new();
+    copy_orders(book, &mut rows);
     // a `match`: under `map_err` the closure would have to require that the second error does not come
-    match explain(heap, copied(book).as_slice(), close) {
+    match explain(heap, rows.as_slice(), close) {
         Ok(told) => Ok(told),
         Err(AuctionError::NoMemory) => Err(AllocError),
         // no book holds more orders than an auction takes

@@ -92,7 +92,9 @@ fn answer_calls<B: Book>(rt: &HostRuntime, book: &mut B, text: &[u8]) -> anyhow:
             Ok(Some(call)) => answer_call(rt, book, call)?,
             Ok(None) => {}
             Err(fault) => {
-                eprintln!(rt; "line {place}: {fault}")?;
+                // not `{fault}`: `Display` may fail, and the message does not
+                let message = fault.message();
+                eprintln!(rt; "line {place}: {message}")?;
                 return Ok(ExitCode::FAILURE);
             }
         }

@@ -44,7 +44,12 @@ pub fn pile<B: Book>(below: B, lower: u8, upper: u8) -> CappedBook<CappedBook<B>
 fn held<B: Book>(book: &B, broker: u32) -> usize
     ensures { result ≡ held_by broker (B.Book.resting book.now) }
 {
-    orders(book).filter(|o| o.broker == broker).count()
+    // a loop: `filter(..).count()` takes a branch for each order, and twice the time
+    let mut n = 0;
+    for order in orders(book) {
+        n += usize::from(order.broker == broker);
+    }
+    n
 }
 
 impl<B: Book> Book for CappedBook<B> {

@@ -1,7 +1,7 @@
 // The flat book: rows in entry order, in memory that the renter lends.
 #![tactic(auto)]
 
-ghost use Rattle.std.specs.Prelude.{◌≡◌, ◌+◌, ◌<◌, ◌≤◌, true, [], ◌∷◌, ◌++◌, length, take, Some, None, IfSome, IfNone};
+ghost use Rattle.std.specs.Prelude.{◌≡◌, ◌+◌, ◌<◌, ◌≤◌, true, [], ◌∷◌, ◌++◌, length, take, slice_set, Some, None, IfSome, IfNone};
 ghost use Rattle.std.specs.List.{remove, HoldsAt};
 ghost use Rattle.book.specs.Books.{above_all, in_entry_order, order_of, row_places};
 
@@ -64,17 +64,27 @@ impl<'a> FlatBook<'a> {
         requires room { HasRoom self.old }
         requires above { above_all order.number (flat_resting self.old) ≡ true }
         ensures list { flat_resting self.new ≡ flat_resting self.old ++ order ∷ [] }
-        ensures fixed { flat_rule self.new ≡ flat_rule self.old }
+        ensures rows { length self.new.rows.now ≡ length self.old.rows.now }
     {
         self.rows[self.count] = order;
         self.count += 1;
+    }
+
+    // Puts an order in a taken row, where the numbers still rise.
+    fn set(&mut self, at: usize, order: Order)
+        requires taken { at < length (flat_resting self.old) }
+        requires ordered { in_entry_order (slice_set (flat_resting self.old) at order) ≡ true }
+        ensures list { flat_resting self.new ≡ slice_set (flat_resting self.old) at order }
+        ensures rows { length self.new.rows.now ≡ length self.old.rows.now }
+    {
+        self.rows[at] = order;
     }
 
     // Takes out the order at a place, and closes up its row.
     fn remove(&mut self, at: usize)
         requires { at < length (flat_resting self.old) }
         ensures list { flat_resting self.new ≡ remove (flat_resting self.old) at }
-        ensures fixed { flat_rule self.new ≡ flat_rule self.old }
+        ensures rows { length self.new.rows.now ≡ length self.old.rows.now }
         ensures room { HasRoom self.new }
     {
         self.rows.copy_within(at + 1..self.count, at);
@@ -112,7 +122,7 @@ impl<'a> Book for FlatBook<'a> {
         // the place is needed too, so the order that is checked is one that was found
         let order = check_cut(Some(self.rows[at]), shares)?;
         match left_of(&order, shares) {
-            Some(left) => self.rows[at] = left,
+            Some(left) => self.set(at, left),
             None => self.remove(at),
         }
         Ok(())

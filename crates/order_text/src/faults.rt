@@ -19,15 +19,15 @@ pub enum Fault {
     TooManyOrders,
 }
 
-impl fmt::Display for Fault {
-    ghost use Rattle.std.specs.Prelude.{Some};
+impl Fault {
+    ghost use Rattle.std.specs.Prelude.{◌≡◌};
     ghost use Rattle.order_text.specs.FaultText.{fault_text};
 
-    ghost output = { λ fault. Some (fault_text fault) };
-
-    // What is wrong with the line.
-    fn fmt<W: fmt::Write>(&self, f: &mut fmt::Formatter<W>) -> fmt::Result {
-        f.write_str(match self {
+    // What is wrong with the line. `Display` writes it, and may fail; this does not.
+    fn message(self) -> &'static str
+        ensures { result.now ≡ fault_text self }
+    {
+        match self {
             Fault::UnknownWord => "the first word is not close, buy or sell",
             Fault::WordMissing => "a word is missing",
             Fault::WordTooMany => "there is a word too many",
@@ -37,7 +37,18 @@ impl fmt::Display for Fault {
             Fault::PriceNotLegal => "the price is not a legal price",
             Fault::SecondClose => "there is a closing price already",
             Fault::TooManyOrders => "there are 512 orders already",
-        })
+        }
+    }
+}
+
+impl fmt::Display for Fault {
+    ghost use Rattle.std.specs.Prelude.{Some};
+    ghost use Rattle.order_text.specs.FaultText.{fault_text};
+
+    ghost output = { λ fault. Some (fault_text fault) };
+
+    fn fmt<W: fmt::Write>(&self, f: &mut fmt::Formatter<W>) -> fmt::Result {
+        f.write_str(self.message())
     }
 }
 
@@ -58,8 +69,9 @@ impl fmt::Display for BadLine {
 
     // The message for the line, with the newline that ends it.
     fn fmt<W: fmt::Write>(&self, f: &mut fmt::Formatter<W>) -> fmt::Result {
-        let BadLine { line, fault } = *self;
-        writeln!(f, "line {line}: {fault}")
+        let line = self.line;
+        let message = self.fault.message();
+        writeln!(f, "line {line}: {message}")
     }
 }
 

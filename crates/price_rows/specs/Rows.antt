@@ -27,3 +27,9 @@ abbrev pub RowsEntered : List Order → Result (ArrayVec PriceRow) AuctionError 
 RowsEntered orders (Ok rows) = (length orders ≤ 512) × (rows.items ≡ entry_rows orders)
 RowsEntered orders (Err TooManyOrders) = 512 < length orders
 RowsEntered orders (Err NoMemory) = ⊥
+
+-- lent rows become the rows in entry order; a refusal, exactly where there are over 512 orders, leaves them as they were
+abbrev pub RowsWritten : List Order → ArrayVec PriceRow → ArrayVec PriceRow → Result (Unit {0}) AuctionError → Type 0
+RowsWritten orders before after (Ok done) = (length orders ≤ 512) × (after.items ≡ entry_rows orders)
+RowsWritten orders before after (Err TooManyOrders) = (512 < length orders) × (after ≡ before)
+RowsWritten orders before after (Err NoMemory) = ⊥

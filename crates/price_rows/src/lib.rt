@@ -4,7 +4,7 @@
 ghost use Rattle.std.specs.Prelude.{◌≡◌, Some};
 ghost use Rattle.price_rows.specs.Amounts.{matched_in, surplus_in};
 ghost use Rattle.price_rows.specs.ErrorText.{auction_error_text};
-ghost use Rattle.price_rows.specs.Rows.{RowsAnswered, RowsEntered};
+ghost use Rattle.price_rows.specs.Rows.{RowsAnswered, RowsEntered, RowsWritten};
 ghost use Rattle.price_rows.specs.declared.AuctionError.TheVariants.{NoMemory};
 
 use arrayvec::ArrayVec;
@@ -76,8 +76,20 @@ impl PriceRow {
 pub fn entry_rows(orders: &[Order]) -> Result<ArrayVec<PriceRow, MOST_ORDERS>, AuctionError>
     ensures { RowsEntered orders.now result }
 {
-    let orders = AuctionOrders::try_from(orders)?;
-    Ok(orders.entry_rows())
+    let mut rows = ArrayVec::new();
+    write_entry_rows(orders, &mut rows)?;
+    Ok(rows)
+}
+
+// Makes the lent rows those of `entry_rows`; a refusal leaves them as they were.
+pub fn write_entry_rows(
+    orders: &[Order],
+    rows: &mut ArrayVec<PriceRow, MOST_ORDERS>,
+) -> Result<(), AuctionError>
+    ensures { RowsWritten orders.now rows.old rows.new result }
+{
+    AuctionOrders::try_from(orders)?.write_entry_rows(rows);
+    Ok(())
 }
 
 // The rows of all candidates, in rising price.

@@ -1,6 +1,6 @@
 // The orders of an auction, and the rows of what would trade.
 ghost use Rattle.std.specs.Prelude.{◌≡◌, ◌≤◌, length, IfOk};
-ghost use Rattle.price_rows.specs.Amounts.{shares_of, shares_at, row_at, named_in_range, candidates};
+ghost use Rattle.price_rows.specs.Amounts.{shares_of, shares_at, row_at, candidates};
 ghost use Rattle.price_rows.specs.Rows.{rows_of, entry_rows};
 
 use super::range::Range;
@@ -64,38 +64,30 @@ impl<'a> AuctionOrders<'a> {
         }
     }
 
-    // The prices that orders name in the range, in entry order.
-    fn named_in_range(&self) -> ArrayVec<u32, MOST_ORDERS>
-        ensures { result.items ≡ named_in_range self.now.orders.now }
+    // Makes them the rows of the prices that orders name in the range, in entry order. The caller lends them: handed back, they
+    // would be copied whole.
+    pub(crate) fn write_entry_rows(&self, rows: &mut ArrayVec<PriceRow, MOST_ORDERS>)
+        ensures { rows.new.items ≡ entry_rows self.now.orders.now }
     {
+        rows.clear();
         let range = Range::of(self.orders);
-        let mut prices = ArrayVec::new();
         for o in self.orders {
             if let Some(price) = range.candidate(o) {
-                prices.push(price);
+                rows.push(self.row_at(price));
             }
         }
-        prices
-    }
-
-    // The rows of those prices.
-    pub(crate) fn entry_rows(&self) -> ArrayVec<PriceRow, MOST_ORDERS>
-        ensures { result.items ≡ entry_rows self.now.orders.now }
-    {
-        let mut rows = ArrayVec::new();
-        for price in self.named_in_range().as_slice() {
-            rows.push(self.row_at(*price));
-        }
-        rows
     }
 
     // The candidates, in rising price.
     fn candidates(&self, heap: Global) -> Result<BTreeSet<u32>, AllocError>
         ensures { IfOk result (λ s. s.keys ≡ candidates self.now.orders.now) }
     {
+        let range = Range::of(self.orders);
         let mut prices = BTreeSet::new(heap);
-        for price in self.named_in_range().as_slice() {
-            prices.insert(*price)?;
+        for o in self.orders {
+            if let Some(price) = range.candidate(o) {
+                prices.insert(price)?;
+            }
         }
         Ok(prices)
     }

@@ -2,9 +2,9 @@
 use super::{answers, buy, holds, places};
 use book::BookRefusal::{BadCut, NoPlace, NoShares, NotResting, NumberNotAbove};
 use book::{Book, orders};
-use book_calls::{BookCall, play};
+use book_calls::{BookCall, CallFault, play};
 use flat_book::FlatBook;
-use order::Side;
+use order::{Kind, Side, UnknownSide};
 use std::process::Abort;
 use std::test::Fail;
 
@@ -166,4 +166,50 @@ fn one_after_the_other<B: Book>(rt: &impl Abort, book: &mut B) {
 fn orders_to_the_last(rt: HostRuntime) {
     let mut rows = [buy(0, 0, 0); 3];
     one_after_the_other(&rt, &mut FlatBook::new(&mut rows));
+}
+
+// Why a line is refused is told, and written so.
+#[test]
+fn faults_by_name(rt: HostRuntime) -> Result<(), Fail> {
+    let all = [
+        (
+            CallFault::UnknownWord,
+            "the first word is not put, replace or cut",
+        ),
+        (CallFault::WordMissing, "a word is missing"),
+        (CallFault::WordTooMany, "there is a word too many"),
+        (
+            CallFault::BadNumber,
+            "a word is not a number of at most eight digits",
+        ),
+        (CallFault::BadSide, "the side is not buy or sell"),
+        (
+            CallFault::BadPrice,
+            "the price is not a number of at most eight digits (a put may also say at-auction)",
+        ),
+    ];
+    for (fault, text) in all {
+        assert_eq!(rt; fault.message(), text);
+        assert_eq!(rt; fault.to_string(rt.alloc())?.as_str(), text);
+    }
+    Ok(())
+}
+
+#[test]
+fn sides_and_kinds_by_name(rt: HostRuntime) -> Result<(), Fail> {
+    assert_eq!(rt; Side::Buy.to_string(rt.alloc())?.as_str(), "buy");
+    assert_eq!(rt; Side::Sell.to_string(rt.alloc())?.as_str(), "sell");
+    assert_eq!(rt;
+        Kind::AtAuction.to_string(rt.alloc())?.as_str(),
+        "at-auction"
+    );
+    assert_eq!(rt;
+        Kind::Limit(10_020).to_string(rt.alloc())?.as_str(),
+        "10020"
+    );
+    assert_eq!(rt;
+        UnknownSide.to_string(rt.alloc())?.as_str(),
+        "the side is not buy or sell"
+    );
+    Ok(())
 }

@@ -1,25 +1,22 @@
 use Rattle.std.proofs.Common.{◌≡◌, Some, None, sym, ap, ◌∙◌}
-use lib.Seq.{take-set-lt}
 use Rattle.book.specs.Books.{in_entry_order}
 use Rattle.book.proofs.Keeping.{ordered_cut}
 use Rattle.flat_book.specs.Flat.{flat_resting, place_of}
-use Rattle.flat_book.proofs.Changing.{blank, place_in_rows, row_cut, row_cut_list}
+use Rattle.flat_book.proofs.Changing.{blank, row_cut, row_cut_list}
 use Rattle.flat_book.proofs.FlatBookBook.cut.Goals as goal
 
-pub invariant_of-self-clause-ordered : goal.invariant_of-self-clause-ordered
-invariant_of-self-clause-ordered c =
+pub set-requires-clause-ordered : goal.set-requires-clause-ordered
+set-requires-clause-ordered c =
     let b = c.args.self.now in
     let found : place_of c.args.number (flat_resting b) ≡ Some c.in_ok-at.at = sym c.place_of.ensures.value ∙ c.in_ok-at.ensures.ok_part in
-    ap in_entry_order
-    (take-set-lt b.count b.rows.now c.in_ok-at.at c.in-Some.left (place_in_rows c.args.number b c.in_ok-at.at found)
-    ∙ row_cut c.args.number b c.in_ok-at.at found c.args.shares blank c.in_ok-order.order c.in_ok-order.ensures.1 (Some c.in-Some.left) (sym c.in-Some.is ∙ c.left_of.ensures))
+    ap in_entry_order (row_cut c.args.number b c.in_ok-at.at found c.args.shares blank c.in_ok-order.order c.in_ok-order.ensures.1 (Some c.in-Some.left) (sym c.in-Some.is ∙ c.left_of.ensures))
     ∙ ordered_cut c.args.number c.args.shares (flat_resting b) b.ordered
 
 pub returns-in-Some-clause-list : goal.returns-in-Some-clause-list
 returns-in-Some-clause-list c =
     let b = c.args.self.now in
     let found : place_of c.args.number (flat_resting b) ≡ Some c.in_ok-at.at = sym c.place_of.ensures.value ∙ c.in_ok-at.ensures.ok_part in
-    take-set-lt b.count b.rows.now c.in_ok-at.at c.in-Some.left (place_in_rows c.args.number b c.in_ok-at.at found)
+    c.set.ensures.list
     ∙ row_cut_list c.args.number b c.in_ok-at.at found c.args.shares blank c.in_ok-order.order c.in_ok-order.ensures.1 (Some c.in-Some.left) (sym c.in-Some.is ∙ c.left_of.ensures) c.in_ok-order.ensures.0
 
 pub returns-in-None-clause-list : goal.returns-in-None-clause-list

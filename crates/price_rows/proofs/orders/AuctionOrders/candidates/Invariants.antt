@@ -1,6 +1,6 @@
-use Rattle.std.proofs.Common.{◌≡◌, take, fold, []}
-use Rattle.price_rows.specs.Amounts.{with_price, named_in_range}
+use Rattle.std.proofs.Common.{◌≡◌, take, filter, fold, []}
+use Rattle.price_rows.specs.Amounts.{with_price, named_prices, in_range}
 use Rattle.price_rows.proofs.orders.AuctionOrders.candidates.Given as goal
 
-abbrev pub invariant-loop-price : goal.invariant-loop-price
-invariant-loop-price l = l.prices.keys ≡ fold with_price [] (take l.price-index (named_in_range l.self.orders.now))
+abbrev pub invariant-loop-o : goal.invariant-loop-o
+invariant-loop-o l = l.prices.keys ≡ fold with_price [] (filter (in_range l.self.orders.now) (named_prices (take l.o-index l.self.orders.now)))

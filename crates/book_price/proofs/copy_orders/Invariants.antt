@@ -1,6 +1,6 @@
 use Rattle.std.proofs.Common.{◌≡◌, ◌++◌}
 use Rattle.book.specs.BookOrders.{orders_left}
-use Rattle.book_price.proofs.copied.Given as goal
+use Rattle.book_price.proofs.copy_orders.Given as goal
 
 -- what is copied and what is still to come are the book's orders
 abbrev pub invariant-loop-order : goal.invariant-loop-order
